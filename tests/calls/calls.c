@@ -4,7 +4,10 @@
 //     CALLS_LOG      where the calls are written down; without it every call goes on as it is
 //     CALLS_FILE     the path of FILE: its reads, writes and syncs are counted, each kind from 1
 //     CALLS_PLAN     what goes wrong: words CALL@FROM-TO=WHAT, of which CALL is read, write, sync, accept, recv or send, and
-//                    WHAT an errno; or 'short' (half of the bytes), or 'torn' (half of them, and an answer of EIO)
+//                    WHAT an errno; or 'short' (half of the bytes), 'torn' (half of them, and an answer of EIO), or 'stop' (the
+//                    program stops before it until it is told to go on)
+//     CALLS_UNREAD   FROM-TO: once a sync of FILE has failed, the pages from one offset up to another can't be read until they are
+//                    written
 //     CALLS_SHORTEN  waits of a tenth of a second and more take so many times less; the clock goes on as if they didn't
 //
 // A sync of FILE that isn't to fail answers 0 and does nothing: what the disk holds then is reckoned from what is written down.
@@ -15,6 +18,7 @@
 #include <errno.h>
 #include <fcntl.h>
 #include <pthread.h>
+#include <signal.h>
 #include <stdio.h>
 #include <stdlib.h>
 #include <string.h>
@@ -46,7 +50,7 @@ static void read_word(char *text) {
         fprintf(stderr, "calls: what is '%s'?\n", text);
         abort();
     }
-    word->what = !strcmp(what, "short") ? SHORT : !strcmp(what, "torn") ? TORN : FAILS;
+    word->what = !strcmp(what, "short") ? SHORT : !strcmp(what, "torn") ? TORN : !strcmp(what, "stop") ? STOPS : FAILS;
     word->error = word->what == TORN ? EIO : atoi(what);
     word_count++;
 }
@@ -81,7 +85,9 @@ enum what next(const char *call, int *error) {
         what = words[i].what;
         *error = words[i].error;
     }
-    return what;
+    if (what != STOPS) return what;
+    raise(SIGSTOP);
+    return NOTHING;
 }
 
 void note(const char *kind, int fd, long long at, long long asked, long long result, int error, const void *bytes, size_t length) {

@@ -7,7 +7,7 @@
 #define HOOK __attribute__((visibility("default")))
 #define REAL(name) ((__typeof__(&name))real(#name))
 
-enum what { NOTHING, FAILS, SHORT, TORN };
+enum what { NOTHING, FAILS, SHORT, TORN, STOPS };
 
 // How many times shorter long waits are than the program asks.
 extern long shorten;

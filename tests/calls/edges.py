@@ -23,8 +23,8 @@ LASTING = (errno.EBADF, errno.EINVAL, errno.ENOTSOCK, errno.EOPNOTSUPP)
 
 
 def format_under(program, library, folder, path, slots, size):
-    """Formats a spool under the library. Gives its status and the calls."""
-    seen = calling.Seen(library, folder, path, name="format")
+    """Formats a spool under the library. Gives its status and the calls. A FILE that is new is one of another name meanwhile."""
+    seen = calling.Seen(library, folder, path if os.path.lexists(path) else f"{path}.unfinished", name="format")
     done = subprocess.run([program, path, "format", str(slots), str(size)], env=seen.environment, capture_output=True, check=False)
     return done.returncode, seen.calls()
 

@@ -1,5 +1,5 @@
 -- What the note of a run tells.
-use Rattle.std.proofs.Common.{◌≡◌, inl, inr, ℕ, List, refl}
+use Rattle.std.proofs.Common.{◌≡◌, ◌⊎◌, inl, inr, ℕ, List, refl, subst, sym}
 use Rattle.conn_serve.proofs.Faults.{counts_none}
 use Rattle.notes.specs.declared.note.Note.{Note}
 use Rattle.bridge_words.specs.declared.need.Need.{Need}
@@ -34,8 +34,10 @@ no_memory words faults = record {
 
 -- the device that the words want wasn't opened
 pub unopened : (words : List (List ℕ)) (need : Need) (note : Note) (faults : Faults) → (need ≡ NoCommand → ⊥)
-    → ((target : List ℕ) (tag : ℕ) → need ≡ Pair target tag → ⊥) → IsNeed words need → note ≡ Note.DiskFault → IsNoteOf words note faults faults
-unopened words need note faults other alone is same = record {
+    → ((target : List ℕ) (tag : ℕ) → need ≡ Pair target tag → ⊥) → IsNeed words need → note ≡ Note.DiskFault ⊎ note ≡ Note.NoMemory
+    → IsNoteOf words note faults faults
+unopened words need note faults other alone is (inr memory) = subst (λ n. IsNoteOf words n faults faults) (sym memory) (no_memory words faults)
+unopened words need note faults other alone is (inl same) = record {
   usage = λ by. absurd (cc);
   no_command = λ none. absurd (needs_device need words other alone is none);
   reads = inl (counts_none (note ≡ Note.ReadFault) faults.reads faults.reads (λ by. cc) refl);

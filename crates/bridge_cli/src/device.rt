@@ -7,6 +7,7 @@ ghost use Rattle.bridge_core.specs.Failed.{TellsReadFault, TellsWriteFault, Tell
 ghost use Rattle.bridge_core.specs.Leave.{ForWords, MayAnswer, MayReplay, MayTake, WasRead, MayRelease, WasWritten, exchanges_as, HasExchangedAt, MayTear, MayBind, MayTell, MayDial, MayPrint};
 ghost use Rattle.bridge_cli.specs.Noted.{IsNoteOf, faults_at};
 ghost use Rattle.cli_files.specs.declared.files.How.{How};
+ghost use Rattle.cli_parts.specs.Ending.{note_in};
 ghost use Rattle.cli_files.specs.Opened.{IsUnopened};
 ghost use Rattle.cli_files.specs.Watched.{MovesWatched};
 ghost use Rattle.bridge_cli.specs.Opened.{OverOpened, OverTarget, WantsFile};
@@ -20,7 +21,7 @@ ghost use Rattle.spool_move.specs.Leave.{MayMove};
 use crate::over::{run_bare, run_once, run_over};
 use bridge_words::{Need, need_of};
 use cli_files::{Files, How, refuse, run_move};
-use cli_parts::{Opening, Told, Waiting, print_no_spool};
+use cli_parts::{Ending, Opening, Told, Waiting, print_no_spool};
 use edge_disk::Disk;
 use edge_io::{Door, Net, Sink, Source};
 use notes::Note;
@@ -38,7 +39,7 @@ fn run_made<F: Files, S: Source, K: Sink, N: Net>(
     input: &mut S,
     output: &mut K,
     net: &mut N,
-) -> Note
+) -> Ending
 where
     N::P: Drop,
     requires need { IsNeed (map string_bytes words.now) (Make len) }
@@ -52,27 +53,21 @@ where
     requires tears { ForWords (map string_bytes words.now) (MayTear F.D.tells F.D.moment F.D.may_tear F.D.may_release) }
     requires prints { ForWords (map string_bytes words.now) (MayPrint ((sink : K) (text : List ℕ) → K.permits sink text)) }
 
-    ensures noted { IsNoteOf (map string_bytes words.now) result
+    ensures noted { IsNoteOf (map string_bytes words.now) (note_in result)
         (faults_at (S.read_faults input.old) (K.write_faults output.old) (N.told net.old))
         (faults_at (S.read_faults input.new) (K.write_faults output.new) (N.told net.new)) }
-    ensures done { IsUnopened result (input.new ≡ input.old × output.new ≡ output.old × net.new ≡ net.old)
+    ensures done { IsUnopened (note_in result) (input.new ≡ input.old × output.new ≡ output.old × net.new ≡ net.old)
         ⊎ OverOpened (F.D.Disk, S.Source.own, K.Sink.own, N.told, N.P.told) (F.opened file.now) (map string_bytes words.now)
-        (input.old, output.old, net.old) (input.new, output.new, net.new) result }
+        (input.old, output.old, net.old) (input.new, output.new, net.new) (note_in result) }
 {
     match files.open(file, How::Made(len)) {
         Ok(disk) => {
-            run_once(
-                rt,
-                words,
-                disk,
-                false,
-                Waiting::Nobody,
-                told,
-                input,
-                output,
-                net,
+            let waiting = Waiting::Nobody;
+            let note = run_once(
+                rt, words, disk, file, false, waiting, told, input, output, net,
             )
-            .note
+            .note;
+            Ending::Noted(note)
         }
         Err(fault) => refuse(rt, file, fault),
     }
@@ -89,7 +84,7 @@ fn run_existing<F: Files, S: Source, K: Sink, N: Net + Send, R: Threads + Wait +
     input: &mut S,
     output: &mut K,
     net: &mut N,
-) -> Note
+) -> Ending
 where
     N::P: Drop + Send,
     <N::P as Door>::L: Send,
@@ -111,21 +106,24 @@ where
     requires tears { ForWords (map string_bytes words.now) (MayTear F.D.tells F.D.moment F.D.may_tear F.D.may_release) }
     requires prints { ForWords (map string_bytes words.now) (MayPrint ((sink : K) (text : List ℕ) → K.permits sink text)) }
 
-    ensures noted { IsNoteOf (map string_bytes words.now) result
+    ensures noted { IsNoteOf (map string_bytes words.now) (note_in result)
         (faults_at (S.read_faults input.old) (K.write_faults output.old) (N.told net.old))
         (faults_at (S.read_faults input.new) (K.write_faults output.new) (N.told net.new)) }
-    ensures done { IsUnopened result (input.new ≡ input.old × output.new ≡ output.old × net.new ≡ net.old)
+    ensures done { IsUnopened (note_in result) (input.new ≡ input.old × output.new ≡ output.old × net.new ≡ net.old)
         ⊎ OverOpened (F.D.Disk, S.Source.own, K.Sink.own, N.told, N.P.told) (F.opened file.now) (map string_bytes words.now)
-        (input.old, output.old, net.old) (input.new, output.new, net.new) result }
+        (input.old, output.old, net.old) (input.new, output.new, net.new) (note_in result) }
 {
     let Ok(opening) = Opening::of(rt.alloc(), words) else {
-        return Note::NoMemory;
+        return Ending::Noted(Note::NoMemory);
     };
     match files.open(file, How::Existing(opening.sharing)) {
         Ok(disk) => {
-            let note = run_over(rt, threads, words, disk, opening, told, input, output, net).note;
+            let note = run_over(
+                rt, threads, words, disk, file, opening, told, input, output, net,
+            )
+            .note;
             print_no_spool(rt, file, note);
-            note
+            Ending::Noted(note)
         }
         Err(fault) => refuse(rt, file, fault),
     }
@@ -135,7 +133,7 @@ where
 /// or made, or one in memory without a byte where they want none; or a move over `file` and the other that they name. A `file` that can't be
 /// opened is a fault of the disk, and standard error says why in a line of its own; one that is no spool is named there too. How
 /// `file` is goes where `told` says. `list` shares `file` with others that list it; every
-/// other command has it alone while it runs.
+/// other command has it alone while it runs. One that is in use ends it with `InUse`.
 ///
 /// What was done is what `bridge` does over that disk, opened so: `done`; or what `bridge_move` does over both: `moved`.
 pub fn run_words<F: Files, S: Source, K: Sink, N: Net + Send, R: Threads + Wait + Sync>(
@@ -148,7 +146,7 @@ pub fn run_words<F: Files, S: Source, K: Sink, N: Net + Send, R: Threads + Wait 
     input: &mut S,
     output: &mut K,
     net: &mut N,
-) -> Note
+) -> Ending
 where
     N::P: Drop + Send,
     <N::P as Door>::L: Send,
@@ -172,21 +170,22 @@ where
     requires keeps { LetsKeep F.D.tells F.D.moment F.D.may_tear F.D.may_release }
     requires prints_move { ForMoves (map string_bytes words.now) (λ _. (sink : K) (text : List ℕ) → K.permits sink text) }
 
-    ensures usage { result ≡ Usage → IsNoCommand (map string_bytes words.now) × IsNoMove (map string_bytes words.now) }
-    ensures no_command { IsNoCommand (map string_bytes words.now) → IsNoMove (map string_bytes words.now) → result ≡ Usage ⊎ result ≡ NoMemory }
-    ensures reads { TellsReadFault (map string_bytes words.now) result (S.read_faults input.old) (S.read_faults input.new)
+    ensures usage { note_in result ≡ Usage → IsNoCommand (map string_bytes words.now) × IsNoMove (map string_bytes words.now) }
+    ensures no_command { IsNoCommand (map string_bytes words.now) → IsNoMove (map string_bytes words.now)
+        → note_in result ≡ Usage ⊎ note_in result ≡ NoMemory }
+    ensures reads { TellsReadFault (map string_bytes words.now) (note_in result) (S.read_faults input.old) (S.read_faults input.new)
         (N.told net.old) (N.told net.new) }
-    ensures writes { TellsWriteFault (map string_bytes words.now) result (K.write_faults output.old) (K.write_faults output.new)
+    ensures writes { TellsWriteFault (map string_bytes words.now) (note_in result) (K.write_faults output.old) (K.write_faults output.new)
         (N.told net.old) (N.told net.new) }
-    ensures dials { TellsDial (map string_bytes words.now) result (N.told net.old) (N.told net.new) }
+    ensures dials { TellsDial (map string_bytes words.now) (note_in result) (N.told net.old) (N.told net.new) }
     ensures done { (how : How) → WantsFile (map string_bytes words.now) how
-        → IsUnopened result (input.new ≡ input.old × output.new ≡ output.old × net.new ≡ net.old)
+        → IsUnopened (note_in result) (input.new ≡ input.old × output.new ≡ output.old × net.new ≡ net.old)
         ⊎ OverOpened (F.D.Disk, S.Source.own, K.Sink.own, N.told, N.P.told) (F.opened file.now) (map string_bytes words.now)
-        (input.old, output.old, net.old) (input.new, output.new, net.new) result }
-    ensures moved { IsSomeMove (map string_bytes words.now) → IsUnopened result (output.new ≡ output.old)
+        (input.old, output.old, net.old) (input.new, output.new, net.new) (note_in result) }
+    ensures moved { IsSomeMove (map string_bytes words.now) → IsUnopened (note_in result) (output.new ≡ output.old)
         ⊎ OverTarget F.opened file.now (map string_bytes words.now) (λ old new.
         MovesWatched (two_disks F.D.tells F.D.tells F.D.moment F.D.moment) (map string_bytes words.now) old new
-        (output_run K.taken K.write_faults output.old output.new) result) }
+        (output_run K.taken K.write_faults output.old output.new) (note_in result)) }
 {
     match need_of(rt.alloc(), words) {
         Ok(Need::Make { len }) => run_made(rt, files, file, len, words, told, input, output, net),
@@ -194,8 +193,8 @@ where
             run_existing(rt, threads, files, file, words, told, input, output, net)
         }
         Ok(Need::Pair { target, .. }) => run_move(rt, files, file, target.as_str(), words, output),
-        Ok(Need::NoCommand) => run_bare(rt.alloc(), words, input, output, net),
-        Ok(Need::Nothing) => run_bare(rt.alloc(), words, input, output, net),
-        Err(_) => Note::NoMemory,
+        Ok(Need::NoCommand) => Ending::Noted(run_bare(rt.alloc(), words, input, output, net)),
+        Ok(Need::Nothing) => Ending::Noted(run_bare(rt.alloc(), words, input, output, net)),
+        Err(_) => Ending::Noted(Note::NoMemory),
     }
 }

@@ -10,6 +10,6 @@ use cli_parts::exit_code;
 use std::process::ExitCode;
 
 fn main(rt: HostRuntime) -> ExitCode {
-    let note = program::run(&rt, &rt);
-    exit_code(note)
+    let ending = program::run(&rt, &rt);
+    exit_code(ending)
 }

@@ -19,13 +19,14 @@ use std::alloc::Global;
 use std::sync::Wait;
 use std::thread::Threads;
 
-// Runs the words over the disk, which is watched meanwhile, and for which somebody may wait; how it is goes where `told` says. Its
-// reading may be shown. What was done is what `bridge` does, and nothing else: of the disk, of the streams and of the net.
+// Runs the words over the disk, which is the file of this path. It is watched meanwhile, and somebody may wait for it; how it is goes where
+// `told` says. Its reading may be shown. What was done is what `bridge` does, and nothing else: of the disk, of the streams and of the net.
 fn run_serving<D: Disk + Drop + Send, S: Source, K: Sink, N: Net + Send, R: Threads + Wait + Sync>(
     rt: &HostRuntime,
     threads: &R,
     words: &[String],
     disk: D,
+    path: &str,
     is_shown: bool,
     waiting: Waiting,
     told: Told<'_>,
@@ -54,7 +55,7 @@ where
         (disk, input.old, output.old, net.old) (input.new, output.new, net.new) result }
 {
     let progress = Progress::new(rt, is_shown);
-    let disk = Watched::new(disk, progress, "FILE", waiting).noting(told);
+    let disk = Watched::new(disk, progress, "FILE", waiting).noting(told, path);
     let Ended {
         status,
         note,
@@ -69,12 +70,13 @@ where
     }
 }
 
-/// Runs words that are none of `serve` over the disk, which is watched meanwhile, and for which somebody may wait; how it is goes where
-/// `told` says. Its reading may be shown. What was done is what `bridge_once` does, and nothing else, and it ends.
+/// Runs words that are none of `serve` over the disk, which is the file of this path. It is watched meanwhile, and somebody may wait for it;
+/// how it is goes where `told` says. Its reading may be shown. What was done is what `bridge_once` does, and nothing else, and it ends.
 pub(crate) fn run_once<D: Disk, S: Source, K: Sink, N: Net>(
     rt: &HostRuntime,
     words: &[String],
     disk: D,
+    path: &str,
     is_shown: bool,
     waiting: Waiting,
     told: Told<'_>,
@@ -96,7 +98,7 @@ pub(crate) fn run_once<D: Disk, S: Source, K: Sink, N: Net>(
         (disk, input.old, output.old, net.old) (input.new, output.new, net.new) result }
 {
     let progress = Progress::new(rt, is_shown);
-    let disk = Watched::new(disk, progress, "FILE", waiting).noting(told);
+    let disk = Watched::new(disk, progress, "FILE", waiting).noting(told, path);
     let Ended {
         status,
         note,
@@ -111,7 +113,7 @@ pub(crate) fn run_once<D: Disk, S: Source, K: Sink, N: Net>(
     }
 }
 
-/// Runs the words over the disk, as they want it. It is watched meanwhile, and how it is goes where `told` says. What was
+/// Runs the words over the disk, which is the file of this path, as they want it. It is watched meanwhile, and how it is goes where `told` says. What was
 /// done is what `bridge` does, and nothing else: of the disk, of the streams and of the net. Words that are none of `serve` are done by
 /// `bridge_once`, which ends; so they alone may wait, and take threads.
 pub(crate) fn run_over<
@@ -125,6 +127,7 @@ pub(crate) fn run_over<
     threads: &R,
     words: &[String],
     disk: D,
+    path: &str,
     opening: Opening,
     told: Told<'_>,
     input: &mut S,
@@ -156,10 +159,12 @@ where
     let waiting = opening.waiting;
     if opening.is_serving {
         run_serving(
-            rt, threads, words, disk, is_shown, waiting, told, input, output, net,
+            rt, threads, words, disk, path, is_shown, waiting, told, input, output, net,
         )
     } else {
-        run_once(rt, words, disk, is_shown, waiting, told, input, output, net)
+        run_once(
+            rt, words, disk, path, is_shown, waiting, told, input, output, net,
+        )
     }
 }
 

@@ -2,8 +2,8 @@
 use crate::device::run_words;
 use cli_files::{SystemFiles, run_rescue, run_skip};
 use cli_parts::{
-    Arguments, Host, NoArguments, RunOptions, Shown, StandardError, Taken, Told, Untaken, confirm,
-    hold_streams, keep_freed, print_beside_usage, print_beside_wrong_option, print_ending,
+    Arguments, Ending, Host, NoArguments, RunOptions, Shown, StandardError, Taken, Told, Untaken,
+    confirm, hold_streams, keep_freed, print_beside_usage, print_beside_wrong_option, print_ending,
     print_line, print_note, print_start, rescue_of, skip_of, take_options, with_tokens,
 };
 use edge_io::FileIo;
@@ -46,9 +46,9 @@ fn run_arguments<R: Threads + Wait + Sync>(
     arguments: &Arguments,
     options: RunOptions,
     errors: &StandardError,
-) -> Note {
+) -> Ending {
     if let Err(note) = confirm(rt, arguments) {
-        return note;
+        return Ending::Noted(note);
     }
     let mut input = FileIo::of(rt.reader());
     let is_terminal = asks_for(arguments, "list") && rt.stdout().is_terminal();
@@ -86,29 +86,29 @@ fn run_taken<R: Threads + Wait + Sync + Copy + Send + 'static>(
     threads: &R,
     arguments: &Arguments,
     options: RunOptions,
-) -> Note {
+) -> Ending {
     let alloc = rt.alloc();
     let Ok(errors) = Arc::new(alloc, StandardError::new(rt)) else {
         print_note(rt, Note::NoMemory);
-        return Note::NoMemory;
+        return Ending::Noted(Note::NoMemory);
     };
     if asks_for(arguments, "serve") {
         if StandardError::start(threads, &errors).is_err() {
             print_note(rt, Note::NoMemory);
-            return Note::NoMemory;
+            return Ending::Noted(Note::NoMemory);
         }
         if !options.is_quiet {
             print_start(&(&*errors, alloc), &arguments.file, &arguments.words);
             errors.finish(rt);
         }
     }
-    let note = run_arguments(rt, threads, arguments, options, &errors);
-    print_ending(&(&*errors, alloc), arguments, note);
+    let ending = run_arguments(rt, threads, arguments, options, &errors);
+    print_ending(&(&*errors, alloc), arguments, ending);
     errors.finish(rt);
-    if note == Note::Usage {
+    if ending == Ending::Noted(Note::Usage) {
         print_beside_usage(rt, arguments);
     }
-    note
+    ending
 }
 
 // The same where the options of the run stand among the words, which are taken out of them.
@@ -116,14 +116,14 @@ fn run_all<R: Threads + Wait + Sync + Copy + Send + 'static>(
     rt: &HostRuntime,
     threads: &R,
     arguments: Arguments,
-) -> Note {
+) -> Ending {
     let taken = take_options(rt.alloc(), &arguments.words);
     let Arguments { file, words } = arguments;
     match taken {
         Ok(Taken { words, options }) => {
             let words = match with_tokens(rt, words) {
                 Ok(words) => words,
-                Err(note) => return note,
+                Err(note) => return Ending::Noted(note),
             };
             let arguments = Arguments { file, words };
             run_taken(rt, threads, &arguments, options)
@@ -131,11 +131,11 @@ fn run_all<R: Threads + Wait + Sync + Copy + Send + 'static>(
         Err(Untaken::Wrong(wrong)) => {
             print_note(rt, Note::Usage);
             print_beside_wrong_option(rt, &Arguments { file, words }, wrong);
-            Note::Usage
+            Ending::Noted(Note::Usage)
         }
         Err(Untaken::NoMemory) => {
             print_note(rt, Note::NoMemory);
-            Note::NoMemory
+            Ending::Noted(Note::NoMemory)
         }
     }
 }
@@ -147,7 +147,7 @@ fn run_all<R: Threads + Wait + Sync + Copy + Send + 'static>(
 pub fn run<R: Threads + Wait + Sync + Copy + Send + 'static>(
     rt: &HostRuntime,
     threads: &R,
-) -> Note {
+) -> Ending {
     let _held = hold_streams(rt);
     keep_freed(rt.alloc());
     match Arguments::read(rt) {
@@ -155,11 +155,11 @@ pub fn run<R: Threads + Wait + Sync + Copy + Send + 'static>(
         Err(NoArguments::NoText) => {
             print_note(rt, Note::Usage);
             print_line(rt, "a word is no UTF-8");
-            Note::Usage
+            Ending::Noted(Note::Usage)
         }
         Err(NoArguments::NoMemory) => {
             print_note(rt, Note::NoMemory);
-            Note::NoMemory
+            Ending::Noted(Note::NoMemory)
         }
     }
 }

@@ -3,19 +3,20 @@ ghost use Rattle.std.specs.Prelude.{◌≡◌, ◌⊎◌, ℕ, List, map, string
 ghost use Rattle.spool_answers.specs.Leave.{LetsKeep};
 ghost use Rattle.spool_move.specs.Leave.{MayMove};
 ghost use Rattle.conn_serve.specs.Endings.{CountsFaults};
-ghost use Rattle.notes.specs.declared.note.Note.TheVariants.{DiskFault, WriteFault};
+ghost use Rattle.notes.specs.declared.note.Note.TheVariants.{DiskFault, NoMemory, WriteFault};
 ghost use Rattle.bridge_words.specs.Words.{IsSomeMove};
 ghost use Rattle.bridge_parts.specs.Run.{output_run};
 ghost use Rattle.bridge_move.specs.Ended.{IsMoveNote};
 ghost use Rattle.bridge_move.specs.Leave.{ForMoves};
 ghost use Rattle.bridge_move.specs.MoveRun.{two_disks};
+ghost use Rattle.cli_parts.specs.Ending.{note_in};
 ghost use Rattle.cli_files.specs.Opened.{IsUnopened, OverFiles};
 ghost use Rattle.cli_files.specs.Watched.{MovesWatched};
 
 use crate::files::Files;
 use crate::refused::refuse;
 use bridge_move::{Moved, bridge_move};
-use cli_parts::{Progress, Showing, Waiting, Watched, print_no_spool};
+use cli_parts::{Ending, Progress, Showing, Waiting, Watched, print_no_spool};
 use edge_disk::Disk;
 use edge_file::PairFault;
 use edge_io::Sink;
@@ -61,21 +62,22 @@ fn move_over<D: Disk, E: Disk, K: Sink>(
 }
 
 // Says why the two files weren't opened.
-fn refuse_pair(rt: &HostRuntime, file: &str, target: &str, fault: PairFault) -> Note
-    ensures { result ≡ DiskFault }
+fn refuse_pair(rt: &HostRuntime, file: &str, target: &str, fault: PairFault) -> Ending
+    ensures { (note_in result ≡ DiskFault) ⊎ (note_in result ≡ NoMemory) }
 {
     match fault {
         PairFault::First(fault) => refuse(rt, file, fault),
         PairFault::Second(fault) => refuse(rt, target, fault),
         PairFault::OneFile => {
             let _ = eprintln!(rt; "bridge: {file} and {target} are one file");
-            Note::DiskFault
+            Ending::Noted(Note::DiskFault)
         }
     }
 }
 
 /// Does what the words of a move ask for, over the two files, each of which this program has alone meanwhile. One that can't be opened is
-/// a fault of the disk, and so is one file as both; standard error says which, in a line of its own, and which of them is no spool.
+/// a fault of the disk, or `InUse`, and one file as both is such a fault too; standard error says which, in a line of its own, and which of
+/// them is no spool.
 pub fn run_move<F: Files, K: Sink>(
     rt: &HostRuntime,
     files: &F,
@@ -83,22 +85,22 @@ pub fn run_move<F: Files, K: Sink>(
     target_path: &str,
     words: &[String],
     output: &mut K,
-) -> Note
+) -> Ending
     requires moves { IsSomeMove (map string_bytes words.now) }
     requires earned { ForMoves (map string_bytes words.now) (λ tag. MayMove F.D.tells F.D.moment F.D.tells F.D.moment tag F.D.may_release) }
     requires tears { LetsKeep F.D.tells F.D.moment F.D.may_tear F.D.may_release }
     requires prints { (k : K) (text : List ℕ) → K.permits k text }
 
-    ensures known { IsMoveNote result }
-    ensures writes { CountsFaults (result ≡ WriteFault) (K.write_faults output.old) (K.write_faults output.new) }
-    ensures done { IsUnopened result (output.new ≡ output.old) ⊎ OverFiles (F.opened file.now) (F.opened target_path.now) (λ old new.
+    ensures known { IsMoveNote (note_in result) }
+    ensures writes { CountsFaults (note_in result ≡ WriteFault) (K.write_faults output.old) (K.write_faults output.new) }
+    ensures done { IsUnopened (note_in result) (output.new ≡ output.old) ⊎ OverFiles (F.opened file.now) (F.opened target_path.now) (λ old new.
         MovesWatched (two_disks F.D.tells F.D.tells F.D.moment F.D.moment) (map string_bytes words.now) old new
-        (output_run K.taken K.write_faults output.old output.new) result) }
+        (output_run K.taken K.write_faults output.old output.new) (note_in result)) }
 {
     match files.open_both(file, target_path) {
         Ok((source, target)) => {
             let is_shown = Showing::Always.is_seen(rt);
-            move_over(
+            let note = move_over(
                 rt,
                 words,
                 [file, target_path],
@@ -107,7 +109,8 @@ pub fn run_move<F: Files, K: Sink>(
                 is_shown,
                 output,
             )
-            .note
+            .note;
+            Ending::Noted(note)
         }
         Err(fault) => refuse_pair(rt, file, target_path, fault),
     }

@@ -6,15 +6,15 @@ ghost use Rattle.bridge_parts.specs.Run.{disk_run, output_run};
 ghost use Rattle.bridge_rescue.specs.RescueRun.{IsRescueNote, IsRescueRun};
 ghost use Rattle.bridge_rescue.specs.declared.rescued.Report.{Report};
 ghost use Rattle.cli_files.specs.declared.files.How.TheVariants.{ToRead};
+ghost use Rattle.cli_parts.specs.Ending.{note_in};
 ghost use Rattle.cli_files.specs.Opened.{IsUnopened, OverFile};
 
 use crate::files::{Files, How};
 use crate::refused::refuse;
 use bridge_rescue::{Layout, Rescued, bridge_rescue};
-use cli_parts::{Progress, Showing, Waiting, Watched, print_note, print_rescue};
+use cli_parts::{Ending, Progress, Showing, Waiting, Watched, print_note, print_rescue};
 use edge_disk::Disk;
 use edge_io::Sink;
-use notes::Note;
 
 // Rescues the entries of the disk, which is watched meanwhile. Its reading may be shown. What was done is what `bridge_rescue` does, and
 // nothing else; no leave to write to the disk is asked for.
@@ -46,32 +46,34 @@ fn rescue_over<D: Disk, K: Sink>(
 }
 
 /// Rescues the entries of `file`, which is opened to be read alone, beside others that read it. One that can't be opened is a fault of the
-/// disk, and standard error says why in a line of its own; else it says which slots are at fault.
+/// disk, or `InUse`, and standard error says why in a line of its own; else it says which slots are at fault.
 pub fn run_rescue<F: Files, K: Sink>(
     rt: &HostRuntime,
     files: &F,
     file: &str,
     given: Option<Layout>,
     output: &mut K,
-) -> Note
+) -> Ending
     requires prints { (k : K) (text : List ℕ) → K.permits k text }
 
-    ensures known { IsRescueNote result }
-    ensures writes { CountsFaults (result ≡ WriteFault) (K.write_faults output.old) (K.write_faults output.new) }
-    ensures done { IsUnopened result (output.new ≡ output.old) ⊎ OverFile (F.opened file.now) ToRead (λ disk after. (report : Option Report) ×
-        IsRescueRun given (disk_run F.D.tells F.D.moment disk after) (output_run K.taken K.write_faults output.old output.new) report result) }
+    ensures known { IsRescueNote (note_in result) }
+    ensures writes { CountsFaults (note_in result ≡ WriteFault) (K.write_faults output.old) (K.write_faults output.new) }
+    ensures done { IsUnopened (note_in result) (output.new ≡ output.old) ⊎ OverFile (F.opened file.now) ToRead (λ disk after. (report : Option Report) ×
+        IsRescueRun given (disk_run F.D.tells F.D.moment disk after) (output_run K.taken K.write_faults output.old output.new) report (note_in result)) }
 {
     match files.open(file, How::ToRead) {
         Ok(disk) => {
             let is_shown = Showing::Apart.is_seen(rt);
             let rescued = rescue_over(rt, given, disk, is_shown, output);
             print_rescue(rt, file, rescued.note, rescued.report.as_ref());
-            rescued.note
+            Ending::Noted(rescued.note)
         }
         Err(fault) => {
-            let note = refuse(rt, file, fault);
-            print_note(rt, note);
-            note
+            let ending = refuse(rt, file, fault);
+            if let Ending::Noted(note) = ending {
+                print_note(rt, note);
+            }
+            ending
         }
     }
 }

@@ -8,16 +8,16 @@ ghost use Rattle.bridge_skip.specs.Leave.{MaySkip, given_output};
 ghost use Rattle.bridge_skip.specs.SkipRun.{IsSkipNote, IsSkipRun};
 ghost use Rattle.edge_file.specs.declared.open_fault.Sharing.TheVariants.{Exclusive};
 ghost use Rattle.cli_files.specs.declared.files.How.TheVariants.{Existing};
+ghost use Rattle.cli_parts.specs.Ending.{note_in};
 ghost use Rattle.cli_files.specs.Opened.{IsUnopened, OverFile};
 
 use crate::files::{Files, How};
 use crate::refused::refuse;
 use bridge_skip::{Skipped, bridge_skip};
-use cli_parts::{Progress, Showing, Waiting, Watched, print_no_spool};
+use cli_parts::{Ending, Progress, Showing, Waiting, Watched, print_no_spool};
 use edge_disk::Disk;
 use edge_file::Sharing;
 use edge_io::Sink;
-use notes::Note;
 
 // Skips the entry over the disk, which is watched meanwhile. Its reading may be shown. What was done is what `bridge_skip` does, and
 // nothing else.
@@ -44,23 +44,23 @@ fn skip_over<D: Disk, K: Sink>(
     }
 }
 
-/// Skips the entry of this number in `file`, which this program has alone meanwhile. One that can't be opened is a fault of the disk, and
-/// standard error says why in a line of its own; one that is no spool is named there too.
+/// Skips the entry of this number in `file`, which this program has alone meanwhile. One that can't be opened is a fault of the disk, or
+/// `InUse`, and standard error says why in a line of its own; one that is no spool is named there too.
 pub fn run_skip<F: Files, K: Sink>(
     rt: &HostRuntime,
     files: &F,
     file: &str,
     number: u64,
     output: &mut K,
-) -> Note
+) -> Ending
     requires earned { (disk : F.D) → MaySkip F.D.tells (F.D.moment disk).reads number (given_output K.same K.taken output.old) F.D.may_release }
     requires tears { LetsKeep F.D.tells F.D.moment F.D.may_tear F.D.may_release }
     requires prints { (k : K) (text : List ℕ) → K.permits k text }
 
-    ensures known { IsSkipNote number result }
-    ensures writes { CountsFaults (result ≡ WriteFault) (K.write_faults output.old) (K.write_faults output.new) }
-    ensures done { IsUnopened result (output.new ≡ output.old) ⊎ OverFile (F.opened file.now) (Existing Exclusive) (λ disk after.
-        IsSkipRun number (disk_run F.D.tells F.D.moment disk after) (output_run K.taken K.write_faults output.old output.new) result) }
+    ensures known { IsSkipNote number (note_in result) }
+    ensures writes { CountsFaults (note_in result ≡ WriteFault) (K.write_faults output.old) (K.write_faults output.new) }
+    ensures done { IsUnopened (note_in result) (output.new ≡ output.old) ⊎ OverFile (F.opened file.now) (Existing Exclusive) (λ disk after.
+        IsSkipRun number (disk_run F.D.tells F.D.moment disk after) (output_run K.taken K.write_faults output.old output.new) (note_in result)) }
 {
     match files.open(file, How::Existing(Sharing::Exclusive)) {
         Ok(disk) => {
@@ -68,7 +68,7 @@ pub fn run_skip<F: Files, K: Sink>(
             let is_shown = Showing::Always.is_seen(rt);
             let note = skip_over(rt, number, disk, is_shown, output).note;
             print_no_spool(rt, file, note);
-            note
+            Ending::Noted(note)
         }
         Err(fault) => refuse(rt, file, fault),
     }

@@ -1,4 +1,4 @@
-pub mod TokenWords
+pub mod Ending
 pub mod Help
 pub mod Near
 pub mod Opening

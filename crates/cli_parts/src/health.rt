@@ -1,6 +1,7 @@
 //! Whether FILE, or the TARGET of a move, is well, for an operator who watches standard error.
 use crate::StandardError;
 use edge_disk::DiskFault;
+use edge_file::Home;
 use edge_net::Since;
 
 /// A call of the file.
@@ -78,6 +79,8 @@ pub(crate) struct HealthLines<'a> {
     health: Health,
     // Where it is noted too since when calls fail, and where lines go, if not straight to standard error.
     told: Option<Told<'a>>,
+    // Where it stood as it was opened, as far as that is known.
+    home: Option<Home>,
 }
 
 impl<'a> HealthLines<'a> {
@@ -93,14 +96,24 @@ impl<'a> HealthLines<'a> {
             waiting,
             health: Health::Well,
             told: None,
+            home: None,
         }
     }
 
-    /// The same, but told so.
-    pub(crate) fn noting(self, told: Told<'a>) -> HealthLines<'a> {
+    /// The same of the file at this path, but told so.
+    pub(crate) fn noting(self, told: Told<'a>, path: &str) -> HealthLines<'a> {
         HealthLines {
             told: Some(told),
+            home: Home::look(self.rt.alloc(), path).ok(),
             ..self
+        }
+    }
+
+    // Whether the file is known to be at its path no more.
+    fn is_left(&self) -> bool {
+        match &self.home {
+            Some(home) => home.is_left(),
+            None => false,
         }
     }
 
@@ -136,6 +149,9 @@ impl<'a> HealthLines<'a> {
         let notice = self.waiting.notice();
         match (after, call) {
             (Health::Well, _) => self.say("", " is well again", ""),
+            (Health::Failing, _) if self.is_left() => {
+                self.say("", " was removed or renamed", notice)
+            }
             (_, Call::Read { .. }) => self.say("a read of ", " failed", ""),
             (_, Call::Write) => self.say("a write of ", " failed", notice),
             (_, Call::Sync) => self.say("a sync of ", " failed", notice),

@@ -42,7 +42,8 @@ Options, after the command's name:
   --group               serve: stores together what came together
   --forward PROTO       serve: forwards what was stored, by this protocol
   --to PLACE            serve: where it is forwarded to
-  --out-token GUID      drain, serve: the token that a collector as receiver knows
+  --out-token GUID      drain, serve: the token that a collector as receiver knows;
+                        @FILE in place of GUID: the file that holds it
   --out-channel GUID    drain, serve: the channel of the requests to it, any GUID
   --polls N             drain, serve: how often it is asked about an ack id, 1 to 1000 (60)
   --idle SECONDS        serve: how long a sender may be silent, 1 to 86400 (600)
@@ -65,6 +66,7 @@ Exit statuses; a line on standard error says more:
   76  the spool was opened as often as it can be
   77  its numbers, its register or its ids are spent
   79  an entry of TARGET is another one, or the one to be skipped isn't pending
+  80  FILE or TARGET is in use
 
 The manual bridge(1) has the rest.";
 

@@ -48,6 +48,6 @@ pub use shown::Shown;
 pub use skip_words::skip_of;
 pub use standard_error::{Host, StandardError};
 pub use starting::print_start;
-pub use status::exit_code;
+pub use status::{Ending, exit_code};
 pub use streams::hold_streams;
 pub use token_file::with_tokens;

@@ -104,12 +104,12 @@ impl<'a, D: Disk> Watched<'a, D> {
         }
     }
 
-    /// The same, but how the disk is goes there too.
-    pub fn noting(self, told: Told<'a>) -> Watched<'a, D>
+    /// The same of the file at this path, but how the disk is goes there too.
+    pub fn noting(self, told: Told<'a>, path: &str) -> Watched<'a, D>
         ensures { result.disk ≡ self.entry.disk }
     {
         Watched {
-            health: self.health.noting(told),
+            health: self.health.noting(told, path),
             ..self
         }
     }

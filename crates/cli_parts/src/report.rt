@@ -5,6 +5,7 @@ use crate::misspelt::{Misspelt, Named, misspelt_in};
 use crate::rescue_words::{begins_rescue, rescue_of};
 use crate::run_options::WrongOption;
 use crate::skip_words::{begins_skip, skip_of};
+use crate::status::Ending;
 use crate::unopened::{missing_folder, open_text};
 use bridge_rescue::{Report, SlotFault, Why};
 use edge_file::OpenFault;
@@ -99,8 +100,12 @@ pub fn print_rescue(
 }
 
 /// Prints why what the arguments asked for ended, where it didn't end well: the note's text, but of a skip that found no pending entry, or
-/// no room for a stretch more, what that means. Of a rescue it prints nothing: [`print_rescue`] does.
-pub fn print_ending(rt: &(impl AllocGlobal + Eprint), arguments: &Arguments, note: Note) {
+/// no room for a stretch more, what that means. Of a rescue it prints nothing: [`print_rescue`] does; nor of a file in use, which has its
+/// own line.
+pub fn print_ending(rt: &(impl AllocGlobal + Eprint), arguments: &Arguments, ending: Ending) {
+    let Ending::Noted(note) = ending else {
+        return;
+    };
     if rescue_of(&arguments.words).is_some() {
         return;
     }

@@ -1,12 +1,15 @@
-//! The file of tokens that `serve --tokens FILE` names. Its text takes the place of its name, so that the words have the list itself. No
-//! token is printed.
+//! The files of tokens that words name: of `serve --tokens FILE` the list of the tokens that it takes, and of `--out-token @FILE` the token
+//! that a receiver knows. The text takes the place of the name, so that the words have the tokens themselves, and the system's list of
+//! processes has none of them. No token is printed.
+ghost use Rattle.std.specs.Prelude.{◌≡◌, ◌<◌, IfOk, IfSome, length};
+
 use crate::report::{print_line, print_note};
 use crate::token_lines::TokenLines;
-use crate::token_words::{FileWord, file_word_in, put_text};
+use crate::token_words::{FileOption, OUT_TOKEN, TOKENS, file_word_in, put_text};
 use bridge_words::{WordsFault, wrong_words};
 use notes::Note;
-use std::alloc::AllocError;
-use std::fs::OpenOptions;
+use std::alloc::{AllocError, Global};
+use std::fs::{self, OpenOptions};
 use std::io::{self, Read};
 use std::os::unix::fs::MetadataExt;
 use std::str;
@@ -16,6 +19,9 @@ const MOST_BYTES: u64 = 131_072;
 
 /// Who may read a file beside its owner: its group, and all others.
 const OTHERS_READ: u32 = 0o044;
+
+/// Who may write it so.
+const OTHERS_WRITE: u32 = 0o022;
 
 // A token in the file's place, with which words are tested before it is read.
 const SAMPLE: &str = "00000000-0000-0000-0000-000000000000";
@@ -36,8 +42,28 @@ impl From<AllocError> for Refused {
     }
 }
 
-// The bytes of a file, or of one that has more than are taken one byte too many. It is said where others than its owner may read it.
-fn bytes_of(rt: &HostRuntime, name: &str) -> io::Result<Vec<u8>> {
+// The bytes of a file, or of one that has more than are taken one byte too many. What is no plain file isn't opened, since to open a pipe
+// would wait for whoever writes to it.
+fn bytes_of(rt: &HostRuntime, name: &str) -> Result<Vec<u8>, Refused> {
+    match read_plain(rt, name) {
+        Ok(Some(bytes)) => Ok(bytes),
+        Ok(None) => {
+            let _ = eprintln!(rt; "bridge: {name}: no plain file");
+            Err(Refused::Unread)
+        }
+        Err(error) => {
+            let _ = eprintln!(rt; "bridge: {name}: {error}");
+            Err(Refused::Unread)
+        }
+    }
+}
+
+// The bytes of a plain file, and none of what is neither that nor a folder. It is said where others than its owner may read or write it.
+fn read_plain(rt: &HostRuntime, name: &str) -> io::Result<Option<Vec<u8>>> {
+    let metadata = fs::metadata(rt, name)?;
+    if !metadata.is_file() && !metadata.is_dir() {
+        return Ok(None);
+    }
     let mut options = OpenOptions::new();
     options.read(true);
     let file = options.open(rt, name)?;
@@ -47,22 +73,15 @@ fn bytes_of(rt: &HostRuntime, name: &str) -> io::Result<Vec<u8>> {
     if mode & OTHERS_READ != 0 {
         let _ = eprintln!(rt; "bridge: {name}: others than its owner may read it");
     }
-    Ok(bytes)
+    if mode & OTHERS_WRITE != 0 {
+        let _ = eprintln!(rt; "bridge: {name}: others than its owner may write it");
+    }
+    Ok(Some(bytes))
 }
 
-// The list in the file of this name, with what is wrong with it said on standard error.
-fn list_in(rt: &HostRuntime, name: &str) -> Result<String, Refused> {
-    if name == "-" {
-        print_line(rt, "--tokens: - is no FILE, and standard input isn't read");
-        return Err(Refused::Wrong);
-    }
-    let bytes = match bytes_of(rt, name) {
-        Ok(bytes) => bytes,
-        Err(error) => {
-            let _ = eprintln!(rt; "bridge: {name}: {error}");
-            return Err(Refused::Unread);
-        }
-    };
+// The tokens in the file of this name, with what is wrong with it said on standard error.
+fn tokens_in(rt: &HostRuntime, name: &str) -> Result<TokenLines, Refused> {
+    let bytes = bytes_of(rt, name)?;
     if bytes.len() as u64 > MOST_BYTES {
         let _ = eprintln!(rt; "bridge: {name}: more than {MOST_BYTES} bytes");
         return Err(Refused::Wrong);
@@ -71,54 +90,104 @@ fn list_in(rt: &HostRuntime, name: &str) -> Result<String, Refused> {
         let _ = eprintln!(rt; "bridge: {name}: no UTF-8");
         return Err(Refused::Wrong);
     };
-    let TokenLines { list, wrong } = TokenLines::of(rt.alloc(), text)?;
-    for number in &wrong {
+    let lines = TokenLines::of(rt.alloc(), text)?;
+    for number in &lines.wrong {
         let _ = eprintln!(rt; "bridge: {name}: line {number}: neither a GUID nor a GUID and ack");
     }
-    if wrong.is_empty() {
-        Ok(list)
+    if lines.wrong.is_empty() {
+        Ok(lines)
     } else {
         Err(Refused::Wrong)
     }
 }
 
-// Puts the list of the file that words name into its name's place, unless they are no command whatever it has: then it isn't read.
-fn put_list(rt: &HostRuntime, words: &mut Vec<String>) -> Result<(), Refused> {
-    let alloc = rt.alloc();
-    let Some(
-        FileWord {
-            at,
-            is_joined,
-            name,
-        },
-    ) = file_word_in(words)
-    else {
-        return Ok(());
+// The list in the file of this name that `--tokens` has.
+fn list_in(rt: &HostRuntime, name: &str) -> Result<String, Refused> {
+    if name == "-" {
+        print_line(rt, "--tokens: - is no FILE, and standard input isn't read");
+        return Err(Refused::Wrong);
+    }
+    let lines = tokens_in(rt, name)?;
+    Ok(lines.list)
+}
+
+// The one token in the file of this name that `--out-token` has.
+fn one_in(rt: &HostRuntime, name: &str) -> Result<String, Refused> {
+    let lines = tokens_in(rt, name)?;
+    let list = lines.list.as_str();
+    match list.strip_suffix("\n") {
+        Some(token) if !token.contains('\n') && !token.contains(' ') => {
+            let token = String::from_str(rt.alloc(), token)?;
+            Ok(token)
+        }
+        _ => {
+            let _ = eprintln!(rt; "bridge: {name}: one GUID is wanted, and nothing else");
+            Err(Refused::Wrong)
+        }
+    }
+}
+
+/// A file that words name, in whose name's place a sample stands.
+#[derive(Drop)]
+struct Named {
+    /// Which of the words it is.
+    at: usize,
+    /// What stays before its text.
+    kept: &'static str,
+    name: String,
+}
+
+// The file that words name by an option, if they do. A sample of a token takes the name's place.
+fn take_name(
+    alloc: Global,
+    words: &mut [String],
+    option: &FileOption,
+) -> Result<Option<Named>, AllocError>
+    ensures within { IfOk result (λ named. IfSome named (λ file. file.at < length words.new)) }
+    ensures count { length words.new ≡ length words.old }
+{
+    let Some(word) = file_word_in(words, option) else {
+        return Ok(None);
     };
-    let name = String::from_str(alloc, name)?;
-    put_text(alloc, words, at, is_joined, SAMPLE)?;
-    if wrong_words(alloc, words)?.is_some() {
+    let name = String::from_str(alloc, word.name)?;
+    let (at, kept) = (word.at, word.kept);
+    put_text(alloc, words, at, kept, SAMPLE)?;
+    Ok(Some(Named { at, kept, name }))
+}
+
+// Puts what the files hold that words name into their names' places, unless they are no command whatever these have: then none is read.
+fn put_files(rt: &HostRuntime, words: &mut [String]) -> Result<(), Refused> {
+    let alloc = rt.alloc();
+    let list = take_name(alloc, words, &TOKENS)?;
+    let out = take_name(alloc, words, &OUT_TOKEN)?;
+    if (list.is_none() && out.is_none()) || wrong_words(alloc, words)?.is_some() {
         return Ok(());
     }
-    let list = list_in(rt, name.as_str())?;
-    put_text(alloc, words, at, is_joined, list.as_str())?;
-    if wrong_words(alloc, words)? == Some(WordsFault::Tokens) {
-        let _ = eprintln!(rt; "bridge: {name}: no token, or more than 1000");
-        return Err(Refused::Wrong);
+    if let Some(Named { at, kept, name }) = list {
+        let text = list_in(rt, name.as_str())?;
+        put_text(alloc, words, at, kept, text.as_str())?;
+        if wrong_words(alloc, words)? == Some(WordsFault::Tokens) {
+            let _ = eprintln!(rt; "bridge: {name}: no token, or more than 1000");
+            return Err(Refused::Wrong);
+        }
+    }
+    if let Some(Named { at, kept, name }) = out {
+        let text = one_in(rt, name.as_str())?;
+        put_text(alloc, words, at, kept, text.as_str())?;
     }
     Ok(())
 }
 
-/// The words with the list of a file in the place of its name, where they are those of a server with `--tokens FILE`; all others stay.
-/// Where they are no command whatever the file has, it isn't read, and they stay no command.
+/// The words with what files hold in the places of their names, where they are those of a server with `--tokens FILE`, or of a command with
+/// `--out-token @FILE`; all others stay. Where they are no command whatever the files have, none is read, and they stay no command.
 ///
-/// A line of the file has a GUID, or a GUID and `ack`, with blanks at its ends and more than one between; or nothing, as one that begins
-/// with `#`. It has 1 to 1,000 tokens, and 131,072 bytes at most.
+/// A line of a file has a GUID, or a GUID and `ack`, with blanks at its ends and more than one between; or nothing, as one that begins
+/// with `#`. That of `--tokens` has 1 to 1,000 tokens, and that of `--out-token` one, without `ack`; each has 131,072 bytes at most.
 ///
 /// The error is the note with which the run ends then. Standard error has said why: each line that is wrong by its number, or why the file
-/// couldn't be read. It is warned there where others than its owner may read it.
+/// couldn't be read. It is warned there where others than its owner may read or write it.
 pub fn with_tokens(rt: &HostRuntime, mut words: Vec<String>) -> Result<Vec<String>, Note> {
-    match put_list(rt, &mut words) {
+    match put_files(rt, &mut words) {
         Ok(()) => Ok(words),
         Err(Refused::Wrong) => Err(Note::Usage),
         Err(Refused::Unread) => Err(Note::DiskFault),

@@ -27,7 +27,16 @@ pub(crate) fn open_text(fault: OpenFault) -> &'static str
         OpenFault::NotAllowed => "not allowed",
         OpenFault::IsFolder => "a folder",
         OpenFault::InUse => "in use",
+        OpenFault::Mounted => "its file system is mounted",
+        OpenFault::Unclaimed => {
+            "/sys/dev/block doesn't show it, so that others can't be kept off it"
+        }
         OpenFault::NoRoom => "no room on its file system",
+        OpenFault::OverLimit => {
+            "no room: longer than this program may write (ulimit -f, LimitFSIZE=)"
+        }
+        OpenFault::Unsynced => "a sync failed",
+        OpenFault::NoMemory => "no memory",
         OpenFault::NoFile => "neither a file nor a block device",
         OpenFault::Other => "can't be opened",
     }

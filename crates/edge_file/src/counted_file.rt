@@ -2,9 +2,9 @@
 ghost use Rattle.std.specs.Prelude.{◌≡◌};
 ghost use Rattle.foundation.specs.Faults.{HasCause};
 
+use crate::opening::Opened;
 use crate::tracked_file::TrackedFile;
 use edge_disk::{Disk, DiskFault};
-use std::fs::File;
 use std::io;
 
 /// A file as a disk, each of whose calls is made to the system at once. It tells its length and its count of faults.
@@ -15,13 +15,13 @@ pub(crate) struct CountedFile {
 }
 
 impl CountedFile {
-    /// The file, which has this length in bytes.
-    pub(crate) fn new(file: File, len: u64) -> CountedFile
+    /// What was opened.
+    pub(crate) fn new(opened: Opened) -> CountedFile
         ensures faults { result.faults ≡ 0 }
-        ensures len { result.file.len ≡ len }
+        ensures len { result.file.len ≡ opened.len }
     {
         CountedFile {
-            file: TrackedFile::new(file, len),
+            file: TrackedFile::new(opened),
             faults: 0,
         }
     }

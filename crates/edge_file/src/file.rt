@@ -3,10 +3,9 @@
 ghost use Rattle.std.specs.Prelude.{◌≡◌, ◌⊎◌, ◌<◌, ◌^◌, IfOk};
 
 use crate::counted_file::CountedFile;
-use crate::opening::{open_file, open_read_only, open_two, set_length, sync_folder};
+use crate::opening::{Opened, make_file, open_file, open_read_only, open_two};
 use crate::{OpenFault, PairFault, Sharing, WholePages};
 use edge_disk::{Disk, DiskFault};
-use std::fs::File;
 
 /// A file or a block device as a disk. Its length is the file's as it was opened. A read or a write at
 /// which the file has become shorter is a fault.
@@ -61,16 +60,16 @@ impl FileDisk {
     ) -> Result<FileDisk, OpenFault>
         ensures { IfOk result (λ disk. (file_moment disk).faults ≡ 0) }
     {
-        let (file, len) = open_file(rt, path, false, sharing)?;
-        Ok(disk_of(file, len))
+        let opened = open_file(rt, path, sharing)?;
+        Ok(disk_of(opened))
     }
 
     /// Opens a file that exists to be read alone, beside others that share it, and says why it isn't opened. A write to it is a fault.
     pub fn open_to_read(rt: &HostRuntime, path: &str) -> Result<FileDisk, OpenFault>
         ensures { IfOk result (λ disk. (file_moment disk).faults ≡ 0) }
     {
-        let (file, len) = open_read_only(rt, path)?;
-        Ok(disk_of(file, len))
+        let opened = open_read_only(rt, path)?;
+        Ok(disk_of(opened))
     }
 
     /// Opens two files that exist as [`FileDisk::open`] does, each for this program alone, and says why they aren't opened: the first
@@ -85,8 +84,8 @@ impl FileDisk {
     ) -> Result<(FileDisk, FileDisk), PairFault>
         ensures { IfOk result (λ disks. ((file_moment disks.0).faults ≡ 0) × ((file_moment disks.1).faults ≡ 0)) }
     {
-        let [(one, len), (other, other_len)] = open_two(rt, first, second)?;
-        Ok((disk_of(one, len), disk_of(other, other_len)))
+        let [one, other] = open_two(rt, first, second)?;
+        Ok((disk_of(one), disk_of(other)))
     }
 
     /// Opens or makes as [`FileDisk::make`] does, and says why a file isn't opened. Nothing of a file in use
@@ -95,19 +94,17 @@ impl FileDisk {
         ensures faults { IfOk result (λ disk. (file_moment disk).faults ≡ 0) }
         ensures size { IfOk result (λ disk. (file_moment disk).size ≡ len ⊎ 0 < (file_moment disk).size) }
     {
-        let (file, size) = open_file(rt, path, true, Sharing::Exclusive)?;
-        let size = set_length(&file, size, len)?;
-        sync_folder(rt, path)?;
-        Ok(disk_of(file, size))
+        let opened = make_file(rt, path, len)?;
+        Ok(disk_of(opened))
     }
 }
 
-fn disk_of(file: File, len: u64) -> FileDisk
+fn disk_of(opened: Opened) -> FileDisk
     ensures faults { result.pages.disk.faults ≡ 0 }
-    ensures len { result.pages.disk.file.len ≡ len }
+    ensures len { result.pages.disk.file.len ≡ opened.len }
 {
     FileDisk {
-        pages: WholePages::new(CountedFile::new(file, len)),
+        pages: WholePages::new(CountedFile::new(opened)),
     }
 }
 

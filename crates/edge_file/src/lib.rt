@@ -5,10 +5,13 @@
 #![tactic(auto)]
 
 mod byte_range;
+mod claim;
 mod counted_file;
 mod file;
 mod file_id;
 mod held_part;
+mod home;
+mod limits;
 mod open_fault;
 mod opening;
 mod tracked_file;
@@ -17,6 +20,8 @@ mod whole_pages;
 
 pub use byte_range::ByteRange;
 pub use file::FileDisk;
+pub use home::Home;
+pub use limits::is_over_limit;
 pub use open_fault::{OpenFault, PairFault, Sharing};
 pub use unsynced::Unsynced;
 pub use whole_pages::WholePages;

@@ -1,4 +1,5 @@
 //! Why a file was not opened as a disk, and with whom it is shared.
+use std::alloc::AllocError;
 use std::fs::TryLockError;
 use std::io::{self, ErrorKind};
 
@@ -22,8 +23,18 @@ pub enum OpenFault {
     IsFolder,
     /// Another program has it open, and doesn't share it.
     InUse,
+    /// It is a block device with a file system that is mounted.
+    Mounted,
+    /// It is a block device that `/sys/dev/block` doesn't show, so that no other program can be kept off it.
+    Unclaimed,
     /// The file system has no room for it, or lets its owner have no more.
     NoRoom,
+    /// It is longer than the limit on the size of a file that this program may write.
+    OverLimit,
+    /// A sync of it failed, made twice.
+    Unsynced,
+    /// No memory was found.
+    NoMemory,
     /// The name is neither a file's nor a block device's.
     NoFile,
     /// Any other failure of the system's.
@@ -48,6 +59,8 @@ impl From<io::Error> for OpenFault {
             ErrorKind::PermissionDenied | ErrorKind::ReadOnlyFilesystem => OpenFault::NotAllowed,
             ErrorKind::IsADirectory => OpenFault::IsFolder,
             ErrorKind::StorageFull | ErrorKind::QuotaExceeded => OpenFault::NoRoom,
+            ErrorKind::FileTooLarge => OpenFault::OverLimit,
+            ErrorKind::OutOfMemory => OpenFault::NoMemory,
             _ => OpenFault::Other,
         }
     }
@@ -59,5 +72,11 @@ impl From<TryLockError> for OpenFault {
             TryLockError::WouldBlock => OpenFault::InUse,
             TryLockError::Error(error) => OpenFault::from(error),
         }
+    }
+}
+
+impl From<AllocError> for OpenFault {
+    fn from(_error: AllocError) -> OpenFault {
+        OpenFault::NoMemory
     }
 }

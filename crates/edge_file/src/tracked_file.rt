@@ -2,13 +2,14 @@
 ghost use Rattle.std.specs.Prelude.{◌≡◌, ◌+◌, ◌^◌, ◌<◌, ◌≤◌, [], true, false, IsTrue, length, ℕ, OnErr, OnOk};
 ghost use Rattle.edge_file.specs.ByteRange.{is_within, is_covered};
 
+use crate::claim::Claim;
+use crate::held_part::PAGE;
+use crate::home::Home;
+use crate::opening::Opened;
 use crate::{ByteRange, Unsynced};
 use std::fs::File;
 use std::io::{self, ErrorKind, Seek, SeekFrom};
 use std::os::unix::fs::FileExt;
-
-// How many bytes are written back at once.
-const CHUNK: usize = 8192;
 
 /// A file of a fixed length, and what was written to it since its last good sync.
 ///
@@ -21,6 +22,9 @@ const CHUNK: usize = 8192;
 pub(crate) struct TrackedFile {
     file: File,
     len: u64,
+    home: Home,
+    // What is locked of a block device, as long as it is open.
+    claim: Claim,
     unsynced: Unsynced,
     // A sync or a write failed, and what was written hasn't been made good since.
     is_failing: bool,
@@ -28,13 +32,21 @@ pub(crate) struct TrackedFile {
 }
 
 impl TrackedFile {
-    /// The file, which has this length in bytes and of which nothing waits for a sync.
-    pub(crate) fn new(file: File, len: u64) -> TrackedFile
-        ensures { result.len ≡ len }
+    /// What was opened, of which nothing waits for a sync.
+    pub(crate) fn new(opened: Opened) -> TrackedFile
+        ensures { result.len ≡ opened.len }
     {
+        let Opened {
+            file,
+            len,
+            home,
+            claim,
+        } = opened;
         TrackedFile {
             file,
             len,
+            home,
+            claim,
             unsynced: Unsynced::new(),
             is_failing: false,
         }
@@ -57,7 +69,7 @@ impl TrackedFile {
     }
 
     /// Writes the piece over the bytes from offset `at` on. Fails where the file has become shorter, since the
-    /// system would make it longer again.
+    /// system would make it longer again, and where it is at its path no more.
     pub(crate) fn write_at(&mut self, at: u64, piece: &[u8]) -> io::Result<()>
         requires { at + length piece.now ≤ self.old.len }
         ensures len { self.new.len ≡ self.old.len }
@@ -65,12 +77,12 @@ impl TrackedFile {
         ensures noted { OnOk result ((i : ℕ) → at ≤ i → i < at + length piece.now → IsTrue (is_covered self.new.unsynced i)) }
     {
         self.make_good()?;
-        self.check_len()?;
+        self.look()?;
         self.note(ByteRange::new(at, piece.len() as u64))?;
         self.write_file(at, piece)
     }
 
-    /// Makes durable what was written.
+    /// Makes durable what was written. Fails where the file is at its path no more: what is durable in it then is gone with this program.
     pub(crate) fn sync(&mut self) -> io::Result<()>
         ensures len { self.new.len ≡ self.old.len }
         ensures good { OnOk result (self.new.is_failing ≡ false) }
@@ -80,6 +92,10 @@ impl TrackedFile {
     {
         if self.is_failing {
             return self.write_back_all();
+        }
+        if self.home.is_left() {
+            self.is_failing = true;
+            return Err(io::Error::from(ErrorKind::NotFound));
         }
         self.sync_file()
     }
@@ -107,7 +123,7 @@ impl TrackedFile {
         ensures failing { OnErr result (self.new.is_failing ≡ true) }
         ensures kept { OnErr result (self.new.unsynced ≡ self.old.unsynced) }
     {
-        self.check_len()?;
+        self.look()?;
         for range in self.unsynced.ranges() {
             write_back(&self.file, *range)?;
         }
@@ -119,10 +135,12 @@ impl TrackedFile {
         ensures len { self.new.len ≡ self.old.len }
         ensures noted { OnOk result ((i : ℕ) → IsTrue (is_within range i) → IsTrue (is_covered self.new.unsynced i)) }
     {
-        if !self.unsynced.note(range) {
-            self.sync()?;
-            self.unsynced = Unsynced::of(range);
+        if self.unsynced.note(range) {
+            return Ok(());
         }
+        self.sync()?;
+        // (after which there is room)
+        let _ = self.unsynced.note(range);
         Ok(())
     }
 
@@ -154,10 +172,13 @@ impl TrackedFile {
         synced
     }
 
-    // Fails where the file has become shorter.
-    fn check_len(&mut self) -> io::Result<()>
+    // Fails where the file has become shorter, or is at its path no more.
+    fn look(&mut self) -> io::Result<()>
         ensures { self.new ≡ record self.old { file = self.new.file } }
     {
+        if self.home.is_left() {
+            return Err(io::Error::from(ErrorKind::NotFound));
+        }
         if end_of(&mut self.file)? < self.len {
             return Err(io::Error::from(ErrorKind::UnexpectedEof));
         }
@@ -170,14 +191,20 @@ pub(crate) fn end_of(file: &mut File) -> io::Result<u64> {
     file.seek(SeekFrom::End(0))
 }
 
-// Writes what a read of the range gives over it.
+// Writes what a read of the range gives over it, by its pages. One that can't be read gets zeros: nothing that was acknowledged stands in a
+// range that waits for a sync, and a disk may take what is written where it gives nothing any more.
 fn write_back(file: &File, range: ByteRange) -> io::Result<()> {
-    let mut chunk = [0; CHUNK];
+    let mut page = [0; PAGE];
     let mut at = range.from;
     while at < range.to {
-        let size = (range.to - at).min(CHUNK as u64);
-        let part = &mut chunk[..size as usize];
-        file.read_exact_at(part, at)?;
+        let size = (range.to - at).min(PAGE as u64 - at % PAGE as u64);
+        let part = &mut page[..size as usize];
+        if let Err(error) = file.read_exact_at(part, at) {
+            if error.kind() == ErrorKind::UnexpectedEof {
+                return Err(error);
+            }
+            part.fill(0);
+        }
         file.write_all_at(part, at)?;
         at += size;
     }

@@ -36,15 +36,6 @@ impl Unsynced {
         }
     }
 
-    /// This range was written, and nothing else.
-    pub fn of(written: ByteRange) -> Unsynced
-        ensures { result ≡ written ∷ [] }
-    {
-        let mut ranges = ArrayVec::new();
-        ranges.push(written);
-        Unsynced { ranges }
-    }
-
     /// The ranges. No byte is in one of them that wasn't noted.
     pub fn ranges(&self) -> &[ByteRange]
         ensures { result.now ≡ self.now }

@@ -64,5 +64,4 @@ pub(crate) fn ranges_have_room_for_64(rt: &impl Abort) {
     assert!(rt; is_joined && is_noted && unsynced.ranges().len() == 64);
     unsynced.clear();
     assert!(rt; keeps(&unsynced, &[]));
-    assert!(rt; keeps(&Unsynced::of(range_of(8, 3)), &[(8, 3)]));
 }

@@ -7,4 +7,4 @@ returns-in-Ok-clause-done g c =
     inr (c.in-Ok.disk, done.result.disk, c.in-Ok.ensures, (done.result.report, done.ensures.run))
 
 pub returns-in-Err-clause-done : goal.returns-in-Err-clause-done
-returns-in-Err-clause-done g c = inl (inl c.refuse-note.ensures, refl)
+returns-in-Err-clause-done g c = inl (c.refuse-ending.ensures.note, refl)

@@ -8,4 +8,4 @@ pub returns-in-Ok-clause-done : goal.returns-in-Ok-clause-done
 returns-in-Ok-clause-done g c = inr (c.in-Ok.disk, c.skip_over-note.result.disk, c.in-Ok.ensures, c.skip_over-note.ensures.run)
 
 pub returns-in-Err-clause-done : goal.returns-in-Err-clause-done
-returns-in-Err-clause-done g c = inl (inl c.refuse.ensures, refl)
+returns-in-Err-clause-done g c = inl (c.refuse.ensures.note, refl)
