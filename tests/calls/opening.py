@@ -75,7 +75,7 @@ def nodes(check, program, _library, folder):
         link = RelpLink(server.ports["relp"])
         link.store(text_of("relp", 1))
         relp = f"--relp=127.0.0.1:{serving.free_ports(1)[0]}"
-        tries = [["serve", relp], ["list"], ["rescue"], ["drain", "relp"], ["replay", "relp"], ["skip", "0"], ["format", "4", "65536"]]
+        tries = [["serve", relp, "--quiet"], ["list"], ["rescue"], ["drain", "relp"], ["replay", "relp"], ["skip", "0"], ["format", "4", "65536"]]
         for words in tries:
             for path in (loop.path, loop.node):
                 seen = run(program, path, *words)
@@ -319,7 +319,7 @@ def locked(check, program, _library, folder):
         before = file.read()
         fcntl.flock(file, fcntl.LOCK_EX)
         relp = f"--relp=127.0.0.1:{serving.free_ports(1)[0]}"
-        tries = [["list"], ["rescue"], ["drain", "relp"], ["replay", "relp"], ["skip", "0"], ["format", "2", "4096"], ["serve", relp]]
+        tries = [["list"], ["rescue"], ["drain", "relp"], ["replay", "relp"], ["skip", "0"], ["format", "2", "4096"], ["serve", relp, "--quiet"]]
         for words in tries:
             seen = run(program, path, *words)
             check(f"{words[0]} of a FILE in use", is_refused(seen, path) and len(seen[2].splitlines()) == 1, seen)
