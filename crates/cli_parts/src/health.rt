@@ -104,7 +104,7 @@ impl<'a> HealthLines<'a> {
     pub(crate) fn noting(self, told: Told<'a>, path: &str) -> HealthLines<'a> {
         HealthLines {
             told: Some(told),
-            home: Home::look(self.rt.alloc(), path).ok(),
+            home: Home::look(self.rt, path).ok(),
             ..self
         }
     }

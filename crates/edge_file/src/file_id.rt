@@ -1,7 +1,7 @@
 //! Which file it is that has a name.
-use std::fs::File;
+use std::fs::{self, File, Metadata};
 use std::io;
-use std::os::fd::AsRawFd;
+use std::os::unix::fs::{FileTypeExt, MetadataExt};
 
 /// The number of a device.
 #[derive(Clone, Copy, PartialEq, Eq, PartialOrd, Ord)]
@@ -22,72 +22,39 @@ pub(crate) enum FileId {
     Block { device: Device },
 }
 
+impl Device {
+    // The device of this number, which has the one in twelve bits and in the topmost ones, and the other between and below.
+    fn of(number: u64) -> Device {
+        let major = ((number >> 32) & 0xffff_f000) | ((number >> 8) & 0xfff);
+        let minor = ((number >> 12) & 0xffff_ff00) | (number & 0xff);
+        Device {
+            major: (major & 0xffff_ffff) as u32,
+            minor: (minor & 0xffff_ffff) as u32,
+        }
+    }
+}
+
 impl FileId {
     /// Which it is that was opened here.
     pub(crate) fn of(file: &File) -> io::Result<FileId> {
-        id_of(file.as_raw_fd(), b"", libc::AT_EMPTY_PATH)
+        Ok(id_of(&file.metadata()?))
     }
 
     /// Which it is that stands at this path now. Symbolic links are followed.
-    pub(crate) fn at(path: &str) -> io::Result<FileId> {
-        id_of(libc::AT_FDCWD, path.as_bytes(), 0)
+    pub(crate) fn at(rt: &HostRuntime, path: &str) -> io::Result<FileId> {
+        Ok(id_of(&fs::metadata(rt, path)?))
     }
 }
 
-// Which it is that `statx` finds.
-fn id_of(folder: i32, path: &[u8], flags: i32) -> io::Result<FileId> {
-    let mut found = nothing_found();
-    if os::statx(folder, path, flags, &mut found) < 0 {
-        return Err(io::Error::from_raw_os_error(os::errno()));
+// Which it is of which the system says so.
+fn id_of(metadata: &Metadata) -> FileId {
+    if metadata.file_type().is_block_device() {
+        return FileId::Block {
+            device: Device::of(metadata.rdev()),
+        };
     }
-    if u32::from(found.stx_mode) & libc::S_IFMT == libc::S_IFBLK {
-        return Ok(FileId::Block {
-            device: Device {
-                major: found.stx_rdev_major,
-                minor: found.stx_rdev_minor,
-            },
-        });
-    }
-    Ok(FileId::File {
-        device: Device {
-            major: found.stx_dev_major,
-            minor: found.stx_dev_minor,
-        },
-        inode: found.stx_ino,
-    })
-}
-
-// What `statx` has not filled yet.
-fn nothing_found() -> libc::types::statx {
-    let never = libc::types::statx_timestamp {
-        tv_sec: 0,
-        tv_nsec: 0,
-        __reserved: 0,
-    };
-    libc::types::statx {
-        stx_mask: 0,
-        stx_blksize: 0,
-        stx_attributes: 0,
-        stx_nlink: 0,
-        stx_uid: 0,
-        stx_gid: 0,
-        stx_mode: 0,
-        __spare0: [0; 1],
-        stx_ino: 0,
-        stx_size: 0,
-        stx_blocks: 0,
-        stx_attributes_mask: 0,
-        stx_atime: never,
-        stx_btime: never,
-        stx_ctime: never,
-        stx_mtime: never,
-        stx_rdev_major: 0,
-        stx_rdev_minor: 0,
-        stx_dev_major: 0,
-        stx_dev_minor: 0,
-        stx_mnt_id: 0,
-        stx_dio_mem_align: 0,
-        stx_dio_offset_align: 0,
-        __spare3: [0; 12],
+    FileId::File {
+        device: Device::of(metadata.dev()),
+        inode: metadata.ino(),
     }
 }

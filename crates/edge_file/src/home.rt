@@ -1,27 +1,29 @@
 //! Where a file stands.
 use crate::file_id::FileId;
-use std::alloc::{AllocError, Global};
+use std::alloc::AllocError;
 use std::io::{self, ErrorKind};
 
 /// The path by which a file was opened, and which file that was.
 #[derive(Drop)]
 pub struct Home {
+    rt: HostRuntime,
     path: String,
     id: FileId,
 }
 
 impl Home {
     /// What stands at this path now.
-    pub fn look(alloc: Global, path: &str) -> io::Result<Home> {
-        let id = FileId::at(path)?;
-        let home = Home::new(alloc, path, id)?;
+    pub fn look(rt: &HostRuntime, path: &str) -> io::Result<Home> {
+        let id = FileId::at(rt, path)?;
+        let home = Home::new(rt, path, id)?;
         Ok(home)
     }
 
     /// The file that was opened by this path. The error says that no memory was found.
-    pub(crate) fn new(alloc: Global, path: &str, id: FileId) -> Result<Home, AllocError> {
+    pub(crate) fn new(rt: &HostRuntime, path: &str, id: FileId) -> Result<Home, AllocError> {
         Ok(Home {
-            path: String::from_str(alloc, path)?,
+            rt: *rt,
+            path: String::from_str(rt.alloc(), path)?,
             id,
         })
     }
@@ -32,7 +34,7 @@ impl Home {
         if let FileId::Block { .. } = self.id {
             return false;
         }
-        match FileId::at(self.path.as_str()) {
+        match FileId::at(&self.rt, self.path.as_str()) {
             Ok(id) => id != self.id,
             Err(error) => { matches!(error.kind(), ErrorKind::NotFound | ErrorKind::NotADirectory) }
         }

@@ -91,7 +91,7 @@ fn hold(rt: &HostRuntime, path: &str, file: File, sharing: Sharing) -> Result<Op
         return Err(OpenFault::OverLimit);
     }
     let claim = Claim::new(rt, id, sharing)?;
-    let home = Home::new(rt.alloc(), path, id)?;
+    let home = Home::new(rt, path, id)?;
     Ok(Opened {
         file,
         len,
