@@ -86,7 +86,20 @@ all_released tells moment given exchanges Release all (Load proto number count) 
 all_released tells moment given exchanges Release all (Serve server) =
     any_some server.forward _ (λ relay disk n received. all n)
 
--- words that don't want a device that exists replay nothing
+-- words that don't want a device that exists answer nobody
+pub nobody_answers : {D : Type 0} (tells : Type 0) (moment : D → Moment) (given : D) (Permits : List ℕ → ℕ → ℕ → List ℕ → List ℕ → Type 0)
+    (words : List (List ℕ)) (need : Need) → (need ≡ Existing → ⊥) → IsNeed words need → ForWords words (MayAnswer tells moment given Permits)
+nobody_answers tells moment given Permits words need other is (Format slots size) asks = tt
+nobody_answers tells moment given Permits words need other is (ListCommand form) asks = tt
+nobody_answers tells moment given Permits words need other is (Replay proto token ack_token) asks = tt
+nobody_answers tells moment given Permits words need other is (Drain receiver place) asks = tt
+nobody_answers tells moment given Permits words need other is (Load proto number count) asks = tt
+nobody_answers tells moment given Permits words need other (inl none) (Serve server) asks = absurd (none.1 (Serve server) asks)
+nobody_answers tells moment given Permits words need other (inr (inl some)) (Serve server) asks =
+    absurd (other (some.2 ∙ ap need_for (one_command some.0 (Serve server) words some.1 asks)))
+nobody_answers tells moment given Permits words need other (inr (inr move)) (Serve server) asks =
+    absurd (move_is_no_command move.0 move.1 words move.2 (Serve server) asks)
+
 pub nothing_replayed : {D : Type 0} (tells : Type 0) (moment : D → Moment) (given : D) (Read Take : List ℕ → Type 0)
     (words : List (List ℕ)) (need : Need) → (need ≡ Existing → ⊥) → IsNeed words need → ForWords words (MayReplay tells moment given Read Take)
 nothing_replayed tells moment given Read Take words need other is (Format slots size) asks = tt
