@@ -20,11 +20,11 @@ returns-in-Ok-open-clause-done g c = inr (record {
   kept = c.run_over-note.ensures.run;
 })
 
-pub returns-in-Err-open-clause-noted : goal.returns-in-Err-open-clause-noted
-returns-in-Err-open-clause-noted g c = unopened _ _ _ _ (λ is. cc) (λ target tag is. cc) c.requires.need c.refuse.ensures.note
+pub returns-in-Err-clause-noted : goal.returns-in-Err-clause-noted
+returns-in-Err-clause-noted g c = unopened _ _ _ _ (λ is. cc) (λ target tag is. cc) c.requires.need c.refuse.ensures.note
 
-pub returns-in-Err-open-clause-done : goal.returns-in-Err-open-clause-done
-returns-in-Err-open-clause-done g c = inl (c.refuse.ensures.note, (refl, refl, refl))
+pub returns-in-Err-clause-done : goal.returns-in-Err-clause-done
+returns-in-Err-clause-done g c = inl (c.refuse.ensures.note, (refl, refl, refl))
 
 -- no memory was found for reading the words
 pub returns-in_default-clause-noted : goal.returns-in_default-clause-noted

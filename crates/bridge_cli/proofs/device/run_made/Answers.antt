@@ -22,8 +22,8 @@ returns-in-Ok-clause-done g c = inr (record {
   kept = c.run_once-note.ensures.run;
 })
 
-pub returns-clause-noted : goal.returns-clause-noted
-returns-clause-noted g c = unopened _ _ _ _ (λ is. cc) (λ target tag is. cc) c.requires.need c.refuse.ensures.note
+pub returns-in-Err-clause-noted : goal.returns-in-Err-clause-noted
+returns-in-Err-clause-noted g c = unopened _ _ _ _ (λ is. cc) (λ target tag is. cc) c.requires.need c.refuse.ensures.note
 
-pub returns-clause-done : goal.returns-clause-done
-returns-clause-done g c = inl (c.refuse.ensures.note, (refl, refl, refl))
+pub returns-in-Err-clause-done : goal.returns-in-Err-clause-done
+returns-in-Err-clause-done g c = inl (c.refuse.ensures.note, (refl, refl, refl))

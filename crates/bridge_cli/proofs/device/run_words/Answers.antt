@@ -105,7 +105,7 @@ returns-in-Ok-Nothing-clause-moved g c = λ some. absurd (moves_none _ _ (λ tar
 -- two devices are wanted
 
 pub run_move-requires-clause-prints : goal.run_move-requires-clause-prints
-run_move-requires-clause-prints g c = let moves = pair_moves _ _ _ (rw c.in-Ok-Pair.field-0-is at c.in-Ok-Pair.ensures) in c.requires.prints_move moves.0 moves.1 moves.2
+run_move-requires-clause-prints g c κs within = let moves = pair_moves _ _ _ (rw c.in-Ok-Pair.field-0-is at c.in-Ok-Pair.ensures) in c.requires.prints_move moves.0 moves.1 moves.2
 
 pub returns-in-Ok-Pair-clause-no_command : goal.returns-in-Ok-Pair-clause-no_command
 returns-in-Ok-Pair-clause-no_command g c = λ none unmoved. let moves = pair_moves _ _ _ (rw c.in-Ok-Pair.field-0-is at c.in-Ok-Pair.ensures) in absurd (unmoved moves.0 moves.1 moves.2)
@@ -121,8 +121,8 @@ returns-in-Ok-Pair-clause-done g c = λ how wants. absurd (no_file _ _ how (λ b
 
 -- no memory was found for reading the words
 
-pub returns-clause-done : goal.returns-clause-done
-returns-clause-done g c = λ how wants. inl (inr refl, (refl, refl, refl))
+pub returns-in-Err-clause-done : goal.returns-in-Err-clause-done
+returns-in-Err-clause-done g c = λ how wants. inl (inr refl, (refl, refl, refl))
 
-pub returns-clause-moved : goal.returns-clause-moved
-returns-clause-moved g c = λ some. inl (inr refl, refl)
+pub returns-in-Err-clause-moved : goal.returns-in-Err-clause-moved
+returns-in-Err-clause-moved g c = λ some. inl (inr refl, refl)

@@ -26,8 +26,8 @@ bridge_once-requires-clause-releases g c =
 pub bridge_once-requires-clause-tears : goal.bridge_once-requires-clause-tears
 bridge_once-requires-clause-tears g c = λ command asks. all_torn ghosts.tells ghosts.moment ghosts.may_tear ghosts.may_release (λ disk at n. tt) command
 
-pub returns-in-Ok-clause-noted : goal.returns-in-Ok-clause-noted
-returns-in-Ok-clause-noted g c = noted _ _ _ c.bridge_once.ensures.run
+pub returns-in-Ok : goal.returns-in-Ok
+returns-in-Ok g c = record { noted = noted _ _ _ c.bridge_once.ensures.run }
 
-pub returns-clause-noted : goal.returns-clause-noted
-returns-clause-noted g c = no_memory _ _
+pub returns-in-Err : goal.returns-in-Err
+returns-in-Err g c = record { noted = no_memory _ _ }
