@@ -45,6 +45,13 @@ fn rescue_over<D: Disk, K: Sink>(
     }
 }
 
+// Prints the note with which no file was opened. One that is in use has none.
+fn print_refused(rt: &HostRuntime, ending: Ending) {
+    if let Ending::Noted(note) = ending {
+        print_note(rt, note);
+    }
+}
+
 /// Rescues the entries of `file`, which is opened to be read alone, beside others that read it. One that can't be opened is a fault of the
 /// disk, or `InUse`, and standard error says why in a line of its own; else it says which slots are at fault.
 pub fn run_rescue<F: Files, K: Sink>(
@@ -70,9 +77,7 @@ pub fn run_rescue<F: Files, K: Sink>(
         }
         Err(fault) => {
             let ending = refuse(rt, file, fault);
-            if let Ending::Noted(note) = ending {
-                print_note(rt, note);
-            }
+            print_refused(rt, ending);
             ending
         }
     }

@@ -6,8 +6,5 @@ returns-in-Ok-clause-done g c =
     let done = c.rescue_over-rescued in
     inr (c.in-Ok.disk, done.result.disk, c.in-Ok.ensures, (done.result.report, done.ensures.run))
 
-pub returns-in-Noted-clause-done : goal.returns-in-Noted-clause-done
-returns-in-Noted-clause-done g c = inl (c.refuse-ending.ensures.note, refl)
-
-pub returns-in_default-clause-done : goal.returns-in_default-clause-done
-returns-in_default-clause-done g c = inl (c.refuse-ending.ensures.note, refl)
+pub returns-in-Err-clause-done : goal.returns-in-Err-clause-done
+returns-in-Err-clause-done g c = inl (c.refuse-ending.ensures.note, refl)
