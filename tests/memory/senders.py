@@ -60,7 +60,7 @@ class Row:
     acks: tuple = ()
     says: tuple = ()
     # (one of them is the call for the block that is freed at the start, so that the C library keeps memory)
-    spares: int = 5
+    spares: int = 8
     late: int = 0
     tells: bytes = b""
 
