@@ -217,7 +217,7 @@ def staged(attack):
 
 
 def costly(attack):
-    """12 with a token whose requests take long to judge, and are refused: chunks of a byte each, values in one another, blanks, an event
+    """14 with a token whose requests take long to judge, and are refused: chunks of a byte each, values in one another, blanks, an event
     that isn't one after many that are; and queries of 10,000 ids."""
     cut = b'{"event":"%s' % (b"a" * 100000)
     texts = [b'{"event":%s%s}' % (b"[" * 120, b"]" * 120) * 400 + b"x", b'{"event":1}' * 9999 + b"x", b" " * 1000000, b"[" * 100000]
