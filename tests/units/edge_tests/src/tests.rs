@@ -37,11 +37,20 @@ fn nets_and_disks(rt: &impl Abort, alloc: Global) {
 }
 
 #[test]
-fn edges(rt: HostRuntime) {
+fn bytes_and_disks(rt: HostRuntime) {
     let alloc = rt.alloc();
     bytes_numbers_and_streams(&rt, alloc);
     nets_and_disks(&rt, alloc);
+}
+
+#[test]
+fn files_are_disks(rt: HostRuntime) {
     files::files_are_disks(&rt, &rt);
+}
+
+#[test]
+fn links_and_doors(rt: HostRuntime) {
+    let alloc = rt.alloc();
     sockets::sockets_are_links(&rt, &rt);
     waits::links_wait_for_a_while(&rt, &rt);
     accepts::accepts_fail_and_pass(&rt, alloc, &rt);
