@@ -10,6 +10,7 @@ pub mod LumberServing
 pub mod Hec
 pub mod Terms
 pub mod HecServing
+pub mod HecReading
 pub mod Serves
 pub mod Says
 pub mod Groups
