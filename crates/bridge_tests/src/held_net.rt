@@ -201,6 +201,8 @@ impl<'a> Net for HeldNet<'a> {
 
     ghost may_dial = { λ _. Unit {0} };
 
+    ghost may_report = { λ _ _. Unit {0} };
+
     ghost permits = { λ _ _ _ _ _. Unit {0} };
 
     ghost has_room = { λ _. Unit {0} };

@@ -225,6 +225,8 @@ impl<'a, R: net::Net<Stream = TcpStream, Listener = TcpListener> + Clock + Eprin
 
     ghost may_dial = { λ _. Unit {0} };
 
+    ghost may_report = { λ _ _. Unit {0} };
+
     ghost permits = { λ _ _ _ _ _. Unit {0} };
 
     ghost has_room = { λ _. Unit {0} };

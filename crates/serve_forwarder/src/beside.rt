@@ -4,6 +4,7 @@ ghost use Rattle.forward_core.specs.Exchanged.{HasExchangedAt};
 ghost use Rattle.spool_turns.specs.Replays.{IsReal};
 ghost use Rattle.serve_forwarder.specs.Looks.{AreInTurn, AreLooks, Look, forwarder_at};
 ghost use Rattle.serve_forwarder.specs.Released.{MayRelease};
+ghost use Rattle.serve_forwarder.specs.Reported.{MayReport};
 
 use crate::Destination;
 use crate::looking::{Looked, Outcome, look};
@@ -81,7 +82,8 @@ fn rest_after<N: Net>(
 /// between the pauses. Once that entry is acknowledged, all are offered again.
 ///
 /// The destination's place is one that may be dialed, and a number may become known as confirmed once the peer there has acknowledged
-/// its entry (`earned`).
+/// its entry (`earned`). What is reported as holding the forwarding up is the entry that a session offered alone and that was not
+/// acknowledged then (`reports`).
 pub fn forward_beside<N: Net, D: Disk, J: Naming, R: Wait>(
     alloc: Global,
     destination: &Destination,
@@ -94,6 +96,8 @@ pub fn forward_beside<N: Net, D: Disk, J: Naming, R: Wait>(
     requires named { N.may_dial destination.now.place }
     requires earned { MayRelease (IsReal D.Disk J.start J.run J.seats J.began) J.start destination.now.outward
         (HasExchangedAt N.L.same N.L.dialed N.L.given N.L.taken destination.now.place) D.may_release }
+    requires reports { MayReport (IsReal D.Disk J.start J.run J.seats J.began) J.start destination.now.outward
+        (HasExchangedAt N.L.same N.L.dialed N.L.given N.L.taken destination.now.place) (N.may_report destination.now.place) }
 
     ensures { (looks : List Look) × AreLooks J.start destination.now looks (forwarder_at seated.old.pass (N.told net.old))
         (forwarder_at seated.new.pass (N.told net.new)) × AreInTurn None looks }

@@ -5,6 +5,7 @@ ghost use Rattle.spool_turns.specs.Replays.{IsReal};
 ghost use Rattle.serve_forwarder.specs.Sessions.{Holds, caller_by};
 ghost use Rattle.serve_forwarder.specs.Looks.{FailsDial, LooksOnce, first_of, forwarder_at, offer_at, stuck_from, upto_of};
 ghost use Rattle.serve_forwarder.specs.Released.{MayEarn, MayRelease, link_by};
+ghost use Rattle.serve_forwarder.specs.Reported.{MayReport};
 
 use crate::Destination;
 use crate::held::report_held_up;
@@ -87,8 +88,9 @@ fn hold<N: Net, A: Access>(
     requires earned { MayEarn (caller_by A.ran A.cursor_known A.end_known A.seen) (link_by N.L.same N.L.dialed N.L.given N.L.taken)
         destination.now upto access.old A.may_release }
 
-    ensures held { IfOk result (λ sent. Holds (caller_by A.ran A.cursor_known A.end_known A.seen) destination.now upto
-        (access.old, N.told net.old) (access.new, N.told net.new) sent) }
+    ensures held { IfOk result (λ sent. (holds : Holds (caller_by A.ran A.cursor_known A.end_known A.seen) destination.now upto
+        (access.old, N.told net.old) (access.new, N.told net.new) sent)
+        × HasExchangedAt N.L.same N.L.dialed N.L.given N.L.taken destination.now.place holds.one.bytes holds.one.text) }
     ensures undialed { IfErr result (λ fault. (access.new ≡ access.old) × FailsDial fault (N.told net.old) (N.told net.new)) }
 {
     let mut link = match net.dial(destination.place.as_str()) {
@@ -116,7 +118,9 @@ fn hold<N: Net, A: Access>(
 /// the destination, above 0, is how often at most a collector is asked whether a request is acknowledged.
 ///
 /// `earned` is the leave to make numbers known as confirmed, which the caller gives: a number may become known once the peer at the
-/// place has acknowledged its entry (`MayRelease`). No other number does, also where the session never ends.
+/// place has acknowledged its entry (`MayRelease`). No other number does, also where the session never ends. `reports` is the leave to tell
+/// the net what holds the forwarding up: the entry that a session offered alone and that was not acknowledged then, and how that session
+/// ended (`MayReport`).
 ///
 /// Where the desk is in doubt, as after a call of the disk that failed, the question first finds out what the disk holds. `Unread`
 /// comes where the desk refuses the question, `Undialed` where the dial fails or finds no memory. At each outcome but `Held` the
@@ -133,6 +137,8 @@ pub fn look<N: Net, D: Disk, J: Naming, R: Wait>(
     requires named { N.may_dial destination.now.place }
     requires earned { MayRelease (IsReal D.Disk J.start J.run J.seats J.began) J.start destination.now.outward
         (HasExchangedAt N.L.same N.L.dialed N.L.given N.L.taken destination.now.place) D.may_release }
+    requires reports { MayReport (IsReal D.Disk J.start J.run J.seats J.began) J.start destination.now.outward
+        (HasExchangedAt N.L.same N.L.dialed N.L.given N.L.taken destination.now.place) (N.may_report destination.now.place) }
 
     ensures { LooksOnce J.start destination.now stuck (forwarder_at seated.old.pass (N.told net.old))
         (forwarder_at seated.new.pass (N.told net.new)) result }

@@ -8,6 +8,7 @@ ghost use Rattle.spool_turns.specs.Replays.{IsReal};
 ghost use Rattle.serve_workers.specs.Crews.{AreNew, HaveWorked, returned_as};
 ghost use Rattle.serve_forwarder.specs.Looks.{AreInTurn, AreLooks, Look, forwarder_at};
 ghost use Rattle.serve_forwarder.specs.Released.{MayRelease};
+ghost use Rattle.serve_forwarder.specs.Reported.{MayReport};
 ghost use Rattle.serve_run.specs.Telling.{MayTell};
 
 use crate::reporting::work_beside_and_tell;
@@ -38,7 +39,9 @@ impl<'a, N: Net, D: Disk + Drop, J: Naming, R: Wait> Task for Forwarding<'a, N, 
     ghost can_run = { λ t. (t.seated.pass.number + 1 ≡ J.seats) × (0 < t.destination.now.outward.polls)
         × N.may_dial t.destination.now.place
         × MayRelease (IsReal D.Disk J.start J.run J.seats J.began) J.start t.destination.now.outward
-        (HasExchangedAt N.L.same N.L.dialed N.L.given N.L.taken t.destination.now.place) D.may_release };
+        (HasExchangedAt N.L.same N.L.dialed N.L.given N.L.taken t.destination.now.place) D.may_release
+        × MayReport (IsReal D.Disk J.start J.run J.seats J.began) J.start t.destination.now.outward
+        (HasExchangedAt N.L.same N.L.dialed N.L.given N.L.taken t.destination.now.place) (N.may_report t.destination.now.place) };
 
     ghost leaves = { λ t r. (r.0.ghost_name ≡ t.net.ghost_name)
         × ((looks : List Look) × AreLooks J.start t.destination.now looks (forwarder_at t.seated.pass (N.told t.net.now))
@@ -97,6 +100,8 @@ where
     requires named { N.may_dial destination.now.place }
     requires earned { MayRelease (IsReal D.Disk J.start J.run J.seats J.began) J.start destination.now.outward
         (HasExchangedAt N.L.same N.L.dialed N.L.given N.L.taken destination.now.place) D.may_release }
+    requires reports { MayReport (IsReal D.Disk J.start J.run J.seats J.began) J.start destination.now.outward
+        (HasExchangedAt N.L.same N.L.dialed N.L.given N.L.taken destination.now.place) (N.may_report destination.now.place) }
     requires tells { IfSome monitor (λ _. MayTell (HasLevel D.Disk J.start J.run J.seats J.began) J.run.number N.M.may_tell) }
 
     ensures worked { HaveWorked J.start J.run talks hired.entry

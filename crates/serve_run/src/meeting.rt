@@ -4,6 +4,7 @@ ghost use Rattle.std.specs.Vec.{vec_capacity};
 ghost use Rattle.forward_core.specs.Exchanged.{HasExchangedAt};
 ghost use Rattle.spool_turns.specs.Replays.{IsReal};
 ghost use Rattle.serve_forwarder.specs.Released.{MayRelease};
+ghost use Rattle.serve_forwarder.specs.Reported.{MayReport};
 ghost use Rattle.serve_forwarder.specs.Looks.{forwarder_at};
 ghost use Rattle.serve_run.specs.Running.{HasMet, LooksLast};
 
@@ -43,6 +44,8 @@ pub(crate) fn look_again<N: Net, D: Disk, J: Naming, R: Wait>(
     requires named { N.may_dial destination.now.place }
     requires earned { MayRelease (IsReal D.Disk J.start J.run J.seats J.began) J.start destination.now.outward
         (HasExchangedAt N.L.same N.L.dialed N.L.given N.L.taken destination.now.place) D.may_release }
+    requires reports { MayReport (IsReal D.Disk J.start J.run J.seats J.began) J.start destination.now.outward
+        (HasExchangedAt N.L.same N.L.dialed N.L.given N.L.taken destination.now.place) (N.may_report destination.now.place) }
 
     ensures looked { LooksLast J.start destination.now workers.old.items (forwarder_at forwarder.old.pass (N.told net.old))
         (forwarder_at forwarder.new.pass (N.told net.new)) result }

@@ -9,6 +9,7 @@ ghost use Rattle.spool_turns.specs.Replays.{IsReal, desk_at};
 ghost use Rattle.serve_workers.specs.Crews.{AreNew, HaveWorked, returned_as};
 ghost use Rattle.serve_workers.specs.Answering.{MayAnswer};
 ghost use Rattle.serve_forwarder.specs.Released.{MayRelease};
+ghost use Rattle.serve_forwarder.specs.Reported.{MayReport};
 ghost use Rattle.serve_forwarder.specs.Looks.{forwarder_at};
 ghost use Rattle.serve_run.specs.Running.{Forwarded, HasRun, HasNotServed, given_by, seating_as};
 ghost use Rattle.serve_run.specs.Served.{IsServed, left_by};
@@ -87,6 +88,8 @@ where
     requires named { N.may_dial destination.now.place }
     requires earned { MayRelease (IsReal D.Disk J.start J.run J.seats J.began) J.start destination.now.outward
         (HasExchangedAt N.L.same N.L.dialed N.L.given N.L.taken destination.now.place) D.may_release }
+    requires reports { MayReport (IsReal D.Disk J.start J.run J.seats J.began) J.start destination.now.outward
+        (HasExchangedAt N.L.same N.L.dialed N.L.given N.L.taken destination.now.place) (N.may_report destination.now.place) }
     requires tells { IfSome monitor (λ _. MayTell (HasLevel D.Disk J.start J.run J.seats J.began) J.run.number N.M.may_tell) }
 
     ensures worked { let crew = result.0.crew in HaveWorked J.start J.run talks hired.entry
@@ -149,6 +152,8 @@ where
     requires named { IfSome destination (λ d. N.may_dial d.now.place) }
     requires earned { IfSome destination (λ d. MayRelease (IsReal D.Disk J.start J.run J.seats J.began) J.start d.now.outward
         (HasExchangedAt N.L.same N.L.dialed N.L.given N.L.taken d.now.place) D.may_release) }
+    requires reports { IfSome destination (λ d. MayReport (IsReal D.Disk J.start J.run J.seats J.began) J.start d.now.outward
+        (HasExchangedAt N.L.same N.L.dialed N.L.given N.L.taken d.now.place) (N.may_report d.now.place)) }
     requires tells { IfSome monitor (λ _. MayTell (HasLevel D.Disk J.start J.run J.seats J.began) J.run.number N.M.may_tell) }
 
     ensures worked { let crew = result.0.crew in HaveWorked J.start J.run talks hired.entry
@@ -206,6 +211,8 @@ where
     requires named { IfSome destination (λ d. N.may_dial d.now.place) }
     requires earned { IfSome destination (λ d. MayRelease (IsReal D.Disk J.start J.run J.seats J.began) J.start d.now.outward
         (HasExchangedAt N.L.same N.L.dialed N.L.given N.L.taken d.now.place) D.may_release) }
+    requires reports { IfSome destination (λ d. MayReport (IsReal D.Disk J.start J.run J.seats J.began) J.start d.now.outward
+        (HasExchangedAt N.L.same N.L.dialed N.L.given N.L.taken d.now.place) (N.may_report d.now.place)) }
     requires tells { IfSome monitor (λ _. MayTell (HasLevel D.Disk J.start J.run J.seats J.began) J.run.number N.M.may_tell) }
 
     ensures many { IfOk result (λ ran. (vec_len ran.crew.doors ≡ vec_len posts) × (vec_len ran.crew.reports ≡ vec_len posts)) }
@@ -256,7 +263,9 @@ where
 /// `says` is all the leave that it has to write to a sender: each door permits, link by link, what may be said once it is stored
 /// (`MayAnswer`). It dials the destination's place and no other, by `named`. And `earned` is all the leave that it has to make numbers
 /// known as confirmed: a number may become known once the peer at that place has acknowledged its entry (`MayRelease`). By `tells`, what
-/// is told to those who ask are the numbers of this run, of a spool to which a journal of calls led that was really made (`MayTell`).
+/// is told to those who ask are the numbers of this run, of a spool to which a journal of calls led that was really made (`MayTell`). And by
+/// `reports`, what is reported to hold the forwarding up is the entry that the session held last had offered alone, and how that ended
+/// (`MayReport`).
 pub fn serve<
     P: Door + Drop + Send,
     D: Disk + Drop + Send,
@@ -288,6 +297,8 @@ where
     requires named { IfSome destination (λ d. N.may_dial d.now.place) }
     requires earned { IfSome destination (λ d. MayRelease (IsReal D.Disk J.start J.run J.seats J.began) J.start d.now.outward
         (HasExchangedAt N.L.same N.L.dialed N.L.given N.L.taken d.now.place) D.may_release) }
+    requires reports { IfSome destination (λ d. MayReport (IsReal D.Disk J.start J.run J.seats J.began) J.start d.now.outward
+        (HasExchangedAt N.L.same N.L.dialed N.L.given N.L.taken d.now.place) (N.may_report d.now.place)) }
     requires tells { IfSome monitor (λ _. MayTell (HasLevel D.Disk J.start J.run J.seats J.began) J.run.number N.M.may_tell) }
 
     ensures many { IfOk result (λ served. (vec_len served.doors ≡ vec_len posts) × (vec_len served.reports ≡ vec_len posts)) }

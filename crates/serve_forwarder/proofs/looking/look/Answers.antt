@@ -1,10 +1,16 @@
-use Rattle.std.proofs.Common.{ℕ, refl, ap, sym, ◌∙◌, subst}
+use Rattle.std.proofs.Common.{◌≡◌, ◌+◌, ◌≤◌, ◌<◌, ◌∷◌, ℕ, [], List, length, refl, ap, sym, ◌∙◌, subst, arith}
 use Rattle.std.specs.Prelude.{Option, None, Ok, Err}
 use Rattle.forward_core.specs.declared.sent.Sent.{Sent}
 use Rattle.serve_forwarder.specs.declared.looking.Outcome.TheVariants as outcome
 use Rattle.serve_forwarder.specs.Looks.{Idle, Unread, Undialed, Held, Look, first_of, offer_at, stuck_from}
+use Rattle.spool_answers.specs.declared.numbered.Numbered.{Numbered}
+use Rattle.desk_access.specs.Call.{Call, pends, Record}
+use Rattle.spool_turns.specs.Ran.{more_real, ran_more, Ran}
+use Rattle.spool_turns.specs.Replays.{IsReal}
+use Rattle.serve_forwarder.specs.Reported.{TellsOf}
 use Rattle.serve_forwarder.specs.Sessions.{HangsUp, IsHeld}
 use Rattle.serve_forwarder.proofs.Asking.{first_within, none_pending, offered, some_pending}
+use Rattle.serve_forwarder.proofs.Reporting.{ends_low, one_given, one_number}
 use Rattle.serve_forwarder.proofs.looking.look.Goals as goal
 
 pub hold-requires-clause-earned : goal.hold-requires-clause-earned
@@ -22,6 +28,42 @@ hold-requires-clause-earned g c = λ new is_new start end begun now link bytes c
 
 pub upto_at-upto-requires : goal.upto_at-upto-requires
 upto_at-upto-requires g c = first_within c.in-Ok.given.items c.in-Some.first c.in-Ok.ensures.numbered (sym c.in-Some.ensures)
+
+pub report_held_up-requires-clause-reports : goal.report_held_up-requires-clause-reports
+report_held_up-requires-clause-reports g c κs within = λ first held_up is some tells.
+    let given = c.in-Ok.given in
+    let start = g.J.Naming.start in
+    let old = c.args.seated.now.pass in
+    let pending = c.pending.new.self.pass in
+    let new = c.hold.new.access.pass in
+    let question = c.in-Ok.ensures.ran in
+    let held = c.in-Ok-hold.ensures.held in
+    let one = held.0.one in
+    let by = held.0.held in
+    let asked = by.asked in
+    let alone = one_given given.items first c.in-Ok.ensures.few is in
+    let call = pends 0 1 (Ok (first ∷ [])) in
+    let asks = subst (λ (items : List Numbered). Ran start old (pends 0 1 (Ok items) ∷ []) pending) alone question.0 in
+    let begins = ran_more start old pending asked.between.pass (call ∷ []) [] asks asked.cursor_ran.0 in
+    let ends = ran_more start old asked.between.pass by.begun.pass (call ∷ []) [] begins asked.end_ran.0 in
+    let Real : List Record → Type 0 = IsReal g.D.Disk start g.J.Naming.run g.J.Naming.seats g.J.Naming.began in
+    let began = λ (made : 0 < length {A = Call} (call ∷ [])). subst Real (sym (asked.end_ran.0.quiet refl ∙ asked.cursor_ran.0.quiet refl)) (question.1 (omega arith)) in
+    let number = one_number given.items first c.in-Some.first alone c.in-Some.ensures in
+    c.requires.reports held_up (record {
+      first = first;
+      one = one;
+      made = record {
+        old = old;
+        new = new;
+        ran = ran_more start old by.begun.pass new (call ∷ []) one.calls ends by.made.0;
+        real = more_real start by.begun.pass new (call ∷ []) one.calls Real by.made.0 began by.made.1 (omega arith);
+      };
+      alone = subst (λ (n : ℕ). one.until ≤ n + 1) number
+          (ends_low c.args.stuck c.upto_at-upto.result c.in-Some.first one.until by.end c.upto_at-upto.ensures some by.until_is);
+      exchanged = held.1;
+      ended = by.ended;
+      told = subst (λ (sent : Sent). TellsOf c.args.destination.now.outward.proto first sent held_up) held.0.sent_is tells;
+    })
 
 pub returns-in-Err : goal.returns-in-Err
 returns-in-Err g c = record {
@@ -49,7 +91,7 @@ returns-in-Ok-hold g c =
     let given = c.in-Ok.given in
     let to = c.args.destination.now in
     let first = c.in-Some.ensures in
-    let held = c.in-Ok-hold.ensures.held in
+    let held = c.in-Ok-hold.ensures.held.0 in
     let one = held.one in
     let by = held.held in
     let asked = by.asked in
