@@ -1,15 +1,12 @@
 //! What a net counts, for those who ask for numbers.
 use crate::Since;
-use edge_io::Proto;
+use edge_io::{Proto, Shortage};
 use std::alloc::{AllocError, Global};
 use std::sync::OnceLock;
 use std::sync::atomic::{AtomicU64, Ordering};
 
 // How many statuses an ending may have.
 const STATUSES: usize = 256;
-
-// The status of an ending where FILE had no room for an event.
-const NO_ROOM: u8 = 67;
 
 /// How often something came, which threads count together.
 #[derive(Drop)]
@@ -44,6 +41,8 @@ pub(crate) struct Connections {
     proto: OnceLock<Proto>,
     // How many have ended, by the status of their ending.
     ended: Vec<Count>,
+    // How many have ended since FILE had no room for an event.
+    without_room: Count,
 }
 
 impl Connections {
@@ -57,6 +56,7 @@ impl Connections {
             accepted: Count::new(),
             proto: OnceLock::new(),
             ended,
+            without_room: Count::new(),
         })
     }
 
@@ -65,8 +65,11 @@ impl Connections {
         self.accepted.add();
     }
 
-    /// That one has ended, by this protocol and with this status.
-    pub(crate) fn end(&self, proto: Proto, status: u8) {
+    /// That one has ended, by this protocol and with this status, and what lacked then, if anything did.
+    pub(crate) fn end(&self, proto: Proto, status: u8, shortage: Option<Shortage>) {
+        if shortage == Some(Shortage::Room) {
+            self.without_room.add();
+        }
         let _ = self.proto.try_set(proto);
         if let Some(count) = self.ended.get(usize::from(status)) {
             count.add();
@@ -97,12 +100,10 @@ impl Connections {
         &self.ended
     }
 
-    /// How many have ended since FILE had no room for an event.
+    /// How many have ended since FILE had no room for an event: not those whose event was larger than a slot, nor those for which the table
+    /// of ack ids was full.
     pub(crate) fn without_room(&self) -> u64 {
-        match self.ended.get(usize::from(NO_ROOM)) {
-            Some(count) => count.get(),
-            None => 0,
-        }
+        self.without_room.get()
     }
 }
 

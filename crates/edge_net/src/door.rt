@@ -4,7 +4,7 @@ ghost use Rattle.std.specs.Prelude.{◌≡◌};
 use crate::accepting::next_connection;
 use crate::roll::{Place, Roll};
 use crate::{Reports, TcpLink, Waits};
-use edge_io::{AcceptFault, Door, Proto};
+use edge_io::{AcceptFault, Door, Proto, Shortage};
 use std::alloc::AllocError;
 use std::io;
 use std::net::{SocketAddr, TcpListener, TcpStream};
@@ -135,11 +135,12 @@ impl<'a, R: Clock + Eprint> Door for TcpDoor<'a, R> {
         proto: Proto,
         _: u64,
         status: u8,
+        shortage: Option<Shortage>,
     ) -> Result<(), AllocError> {
         self.read_errors = self.read_errors.saturating_add(link.read_errors());
         self.write_errors = self.write_errors.saturating_add(link.write_errors());
-        self.shared.place.connections.end(proto, status);
-        link.close_served(self.shared.rt, proto, status);
+        self.shared.place.connections.end(proto, status, shortage);
+        link.close_served(self.shared.rt, proto, status, shortage);
         Ok(())
     }
 }

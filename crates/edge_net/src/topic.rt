@@ -1,6 +1,6 @@
 //! What is said of a sender: which one it is, and what befell its connection.
 use crate::Trouble;
-use edge_io::Proto;
+use edge_io::{Proto, Shortage};
 use std::fmt;
 use std::net::IpAddr;
 
@@ -15,11 +15,12 @@ pub enum Matter {
     FrameRefused {
         code: u16,
     },
-    /// It ended otherwise than well: by which protocol it spoke, the exit status that stands for its ending, and what went wrong in a
-    /// call of the system, if one failed.
+    /// It ended otherwise than well: by which protocol it spoke, the exit status that stands for its ending, what lacked, where an event
+    /// could not be stored and nothing had failed, and what went wrong in a call of the system, if one failed.
     Ended {
         proto: Proto,
         status: u8,
+        shortage: Option<Shortage>,
         trouble: Option<Trouble>,
     },
 }
@@ -39,6 +40,15 @@ pub(crate) fn name_of(proto: Proto) -> &'static str {
         Proto::Relp => "RELP",
         Proto::Lumberjack => "Lumberjack",
         Proto::Hec => "HEC",
+    }
+}
+
+// What lacked, in words.
+fn lack_of(shortage: Shortage) -> &'static str {
+    match shortage {
+        Shortage::Room => "FILE has no room",
+        Shortage::Slot => "the event is larger than a slot of FILE",
+        Shortage::Ids => "the table of ack ids is full",
     }
 }
 
@@ -67,10 +77,14 @@ impl fmt::Display for Matter {
             Matter::Ended {
                 proto,
                 status,
+                shortage,
                 trouble,
             } => {
                 let name = name_of(proto);
-                let meaning = meaning_of(status);
+                let meaning = match shortage {
+                    Some(shortage) => lack_of(shortage),
+                    None => meaning_of(status),
+                };
                 match (status, trouble) {
                     (71 | 72, Some(trouble)) => {
                         write!(f, "its {name} connection ended with {status}: {trouble}")

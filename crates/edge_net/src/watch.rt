@@ -1,7 +1,7 @@
 //! What is seen of a connection, for the lines about it.
 use crate::trouble::Way;
 use crate::{Answer, Illness, Matter, Reports, Trouble};
-use edge_io::Proto;
+use edge_io::{Proto, Shortage};
 use std::io;
 use std::net::SocketAddr;
 use std::rt::Clock;
@@ -123,8 +123,9 @@ impl<R: Clock + Eprint> Watch<'_, R> {
         self.fails(place, Illness::Lost { trouble });
     }
 
-    /// A connection that was accepted was served to its end, by this protocol and with this exit status.
-    pub(crate) fn ended(&self, proto: Proto, status: u8) {
+    /// A connection that was accepted was served to its end, by this protocol and with this exit status, and this lacked then, if anything
+    /// did.
+    pub(crate) fn ended(&self, proto: Proto, status: u8, shortage: Option<Shortage>) {
         let is_unused = !self.has_read && self.trouble == Some(Trouble::Reset);
         if status == 0 || self.is_said || is_unused {
             return;
@@ -133,6 +134,7 @@ impl<R: Clock + Eprint> Watch<'_, R> {
             let matter = Matter::Ended {
                 proto,
                 status,
+                shortage,
                 trouble: self.trouble,
             };
             self.reports.sender(self.rt, peer, matter);

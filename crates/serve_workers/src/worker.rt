@@ -8,6 +8,7 @@ ghost use Rattle.serve_workers.specs.Works.{ServesLink, Stops, Worked, posted_as
 ghost use Rattle.serve_workers.specs.Crews.{IsReady};
 ghost use Rattle.serve_workers.specs.Answering.{MayAnswer};
 
+use crate::shortage::shortage_of;
 use conn_serve::{Rules, attend};
 use desk_access::Access;
 use edge_disk::Disk;
@@ -75,7 +76,8 @@ fn serve_next<P: Door, A: Access>(
     };
     let attended = attend(alloc, &mut link, rules, access, conn);
     let status = Note::of_talk(attended.talk).status();
-    match door.give_back(link, rules.proto, conn, status) {
+    let shortage = shortage_of(attended.talk);
+    match door.give_back(link, rules.proto, conn, status, shortage) {
         Ok(()) => Ok(()),
         Err(_) => Err(WorkerEnd::NoMemory),
     }

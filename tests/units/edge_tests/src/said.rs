@@ -1,7 +1,7 @@
 //! What a net says of what befalls its doors and links, by a clock and a standard error in memory.
 use crate::sockets::free_place;
 use crate::staged::Staged;
-use edge_io::{Door, HeldUp, Net, Pause, Proto, Sink, Source};
+use edge_io::{Door, HeldUp, Net, Pause, Proto, Shortage, Sink, Source};
 use edge_net::{Reports, TcpDoor, TcpLink, TcpNet, Waits};
 use std::alloc::Global;
 use std::process::Abort;
@@ -314,7 +314,7 @@ fn an_entry_that_is_held_up_is_said(
     assert_receiver(rt, staged, "nowhere", line);
 }
 
-// A sender's connection is served to its end, which has this status.
+// A sender's connection is served to its end, which has this status, and this lacked then, if anything did.
 fn serve_to<'a, 'h>(
     rt: &impl Abort,
     net: &mut StagedNet<'a, 'h>,
@@ -322,11 +322,31 @@ fn serve_to<'a, 'h>(
     place: &str,
     proto: Proto,
     status: u8,
+    shortage: Option<Shortage>,
 ) {
     let (near, far) = pair(rt, net, door, place);
     net.hang_up(near);
-    assert!(rt; door.give_back(far, proto, 0, status).is_ok());
+    assert!(rt; door.give_back(far, proto, 0, status, shortage).is_ok());
 }
+
+// What is said of a connection that ended since this lacked.
+const SHORT: [(Proto, Shortage, &str); 3] = [
+    (
+        Proto::Lumberjack,
+        Shortage::Room,
+        ": its Lumberjack connection ended with 67: FILE has no room",
+    ),
+    (
+        Proto::Relp,
+        Shortage::Slot,
+        ": its RELP connection ended with 67: the event is larger than a slot of FILE",
+    ),
+    (
+        Proto::Hec,
+        Shortage::Ids,
+        ": its HEC connection ended with 67: the table of ack ids is full",
+    ),
+];
 
 fn endings_are_said_once_a_minute(
     rt: &impl Abort,
@@ -335,22 +355,23 @@ fn endings_are_said_once_a_minute(
     place: &str,
 ) {
     let mut door = bound(rt, staged, net, place);
-    serve_to(rt, net, &mut door, place, Proto::Relp, 0);
+    serve_to(rt, net, &mut door, place, Proto::Relp, 0, None);
     assert_silence(rt, staged);
     let words = ": its RELP connection ended with 66: its bytes break the protocol";
-    serve_to(rt, net, &mut door, place, Proto::Relp, 66);
+    serve_to(rt, net, &mut door, place, Proto::Relp, 66, None);
     assert_sender(rt, staged, words);
-    serve_to(rt, net, &mut door, place, Proto::Relp, 66);
-    serve_to(rt, net, &mut door, place, Proto::Relp, 66);
+    serve_to(rt, net, &mut door, place, Proto::Relp, 66, None);
+    serve_to(rt, net, &mut door, place, Proto::Relp, 66, None);
     assert_silence(rt, staged);
-    let full = ": its Lumberjack connection ended with 67: FILE has no room";
-    serve_to(rt, net, &mut door, place, Proto::Lumberjack, 67);
-    assert_sender(rt, staged, full);
+    for (proto, shortage, words) in SHORT {
+        serve_to(rt, net, &mut door, place, proto, 67, Some(shortage));
+        assert_sender(rt, staged, words);
+    }
     staged.pass(MINUTE);
-    serve_to(rt, net, &mut door, place, Proto::Relp, 66);
+    serve_to(rt, net, &mut door, place, Proto::Relp, 66, None);
     let words = ": its bytes break the protocol; 3 times since the last such line";
     assert_sender(rt, staged, words);
-    serve_to(rt, net, &mut door, place, Proto::Hec, 73);
+    serve_to(rt, net, &mut door, place, Proto::Hec, 73, None);
     let failed = ": its HEC connection ended with 73: a call on FILE failed";
     assert_sender(rt, staged, failed);
 }
@@ -368,7 +389,7 @@ fn resets_are_said(rt: &impl Abort, staged: &Staged<'_>, net: &mut StagedNet<'_,
         // closed with bytes unread, it resets the connection
         net.hang_up(near);
         assert!(rt; far.read(&mut [0u8; 16]).is_err());
-        assert!(rt; door.give_back(far, Proto::Relp, 0, 71).is_ok());
+        assert!(rt; door.give_back(far, Proto::Relp, 0, 71, None).is_ok());
         if is_read {
             let words = ": its RELP connection ended with 71: it reset the connection";
             assert_sender(rt, staged, words);
@@ -388,13 +409,13 @@ fn waits_in_vain_are_said(
     let (near, mut far) = pair(rt, net, &mut door, place);
     assert!(rt; far.read(&mut [0u8; 8]).is_err());
     drop(near);
-    assert!(rt; door.give_back(far, Proto::Hec, 0, 71).is_ok());
+    assert!(rt; door.give_back(far, Proto::Hec, 0, 71, None).is_ok());
     let words = ": its HEC connection ended with 71: it sent nothing for 1 seconds";
     assert_sender(rt, staged, words);
     let (near, mut far) = pair(rt, net, &mut door, place);
     assert!(rt; write_until_it_fails(&mut far));
     drop(near);
-    assert!(rt; door.give_back(far, Proto::Hec, 0, 72).is_ok());
+    assert!(rt; door.give_back(far, Proto::Hec, 0, 72, None).is_ok());
     let words = ": its HEC connection ended with 72: it took nothing for 1 seconds";
     assert_sender(rt, staged, words);
 }
@@ -419,14 +440,14 @@ fn refusals_are_said_by_their_codes(
         // a second time within a minute, and the connection's end
         assert!(rt; far.write(text.as_bytes()) == Ok(text.len()));
         drop(near);
-        assert!(rt; door.give_back(far, Proto::Hec, 0, 66).is_ok());
+        assert!(rt; door.give_back(far, Proto::Hec, 0, 66, None).is_ok());
         assert_silence(rt, staged);
     }
     // what a peer writes so is no refusal of bridge
     let (mut near, mut far) = pair(rt, net, &mut door, place);
     pass(rt, &mut near, &mut far, "HTTP/1.1 401 No\r\n");
     net.hang_up(near);
-    assert!(rt; door.give_back(far, Proto::Hec, 0, 0).is_ok());
+    assert!(rt; door.give_back(far, Proto::Hec, 0, 0, None).is_ok());
     assert_silence(rt, staged);
 }
 
@@ -445,7 +466,7 @@ fn a_quiet_net_says_nothing(
     let (mut near, mut far) = pair(rt, net, &mut door, place);
     pass(rt, &mut far, &mut near, "HTTP/1.1 401 No\r\n");
     net.hang_up(near);
-    assert!(rt; door.give_back(far, Proto::Hec, 0, 66).is_ok());
+    assert!(rt; door.give_back(far, Proto::Hec, 0, 66, None).is_ok());
     for _ in 0..4 {
         net.pause();
         net.report_held_up(place, &REFUSED);
