@@ -20,7 +20,7 @@ print_slots-requires-clause-readable g c =
 -- all were printed
 
 pub returns-in-Ok-print_slots-clause-known : goal.returns-in-Ok-print_slots-clause-known
-returns-in-Ok-print_slots-clause-known g c = verdict_known _ _ c.verdict-note.ensures
+returns-in-Ok-print_slots-clause-known g c = verdict_known _ _ _ c.verdict-note.ensures
 
 pub returns-in-Ok-print_slots-clause-calls : goal.returns-in-Ok-print_slots-clause-calls
 returns-in-Ok-print_slots-clause-calls g c =
@@ -34,7 +34,7 @@ returns-in-Ok-print_slots-clause-told g c = λ tells.
 
 pub returns-in-Ok-print_slots-clause-writes : goal.returns-in-Ok-print_slots-clause-writes
 returns-in-Ok-print_slots-clause-writes g c =
-    counts_as _ _ _ _ (λ by. absurd (verdict_written _ _ c.verdict-note.ensures by)) (λ e. absurd (cc)) c.in-Ok-print_slots.ensures.writes
+    counts_as _ _ _ _ (λ by. absurd (verdict_written _ _ _ c.verdict-note.ensures by)) (λ e. absurd (cc)) c.in-Ok-print_slots.ensures.writes
 
 pub returns-in-Ok-print_slots-clause-done : goal.returns-in-Ok-print_slots-clause-done
 returns-in-Ok-print_slots-clause-done g c = λ tells.
