@@ -51,8 +51,8 @@ impl Level {
     {
         let spool = &alone.desk.spool;
         let slots = spool.memory.slots;
-        let used = count_held(&spool.memory.older, spool.cursor()) + 1;
-        let free = u64::from(slots).saturating_sub(used);
+        let held = count_held(&spool.memory.older, spool.cursor());
+        let free = u64::from(slots).saturating_sub(held).saturating_sub(1);
         Level {
             standing: alone.standing(),
             slots,
