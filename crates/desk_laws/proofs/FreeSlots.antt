@@ -1,23 +1,20 @@
 -- As many slots are free as are counted.
-use Rattle.std.proofs.Common.{◌≡◌, ◌≢◌, ◌⊎◌, ◌↔◌, inl, inr, ℕ, zero, suc, ◌+◌, ◌-◌, ◌<◌, ◌≤◌, Bool, true, false, cond, List, [], ◌∷◌, length, refl, sym, ◌∙◌, ap, subst, arith}
-use Rattle.std.specs.Prelude.{◌||◌, eqb, All}
+use Rattle.std.proofs.Common.{◌≡◌, ◌≢◌, ◌⊎◌, inl, inr, ℕ, zero, suc, ◌+◌, ◌<◌, ◌≤◌, Bool, true, false, cond, List, [], ◌∷◌, length, refl, sym, ◌∙◌, ap, subst, arith}
+use Rattle.std.specs.Prelude.{◌||◌, eqb}
 use Rattle.std.specs.List.{AllByRecursion, Contains, IsDistinct, list_any}
 use Rattle.std.proofs.lemmas.Bool.{cases_Bool, cases_eq, eqb-true, eqb-false, eq-eqb, ne_eqb, or_parts, or_from, or_left, or_cases, both_ways, leb-true, le-leb}
 use Rattle.std.proofs.lemmas.List.Elements.{All-head, All-tail, All-contains}
 use Rattle.spool_state.specs.SpoolState.{OpenSlot, SpoolState, AreElsewhere, AreApart, IsOpenSlot, IsSound}
-use Rattle.spool_state.specs.Free.{end_of, is_confirmed, IsClosed, IsPassed, IsFree}
+use Rattle.spool_state.specs.Free.{end_of, is_confirmed, IsFree}
 use Rattle.spool_state.proofs.Sorting.{contained, slot_of_place}
 use Rattle.spool_turns.specs.Levels.{count_held_in, free_slots_in}
 use Rattle.desk_laws.specs.FreeSlots.{AreFree}
 
 -- ---- numbers below a limit that aren't among others
 
-others : ℕ → List ℕ → List ℕ
+abbrev others : ℕ → List ℕ → List ℕ
 others zero taken = []
 others (suc n) taken = cond (list_any (eqb n) taken) (others n taken) (n ∷ others n taken)
-
-among : List ℕ → ℕ → Bool
-among taken q = list_any (eqb q) taken
 
 -- one more that is taken, which is not below the limit, takes none
 same_above : (n p : ℕ) (taken : List ℕ) → n ≤ p → others n (p ∷ taken) ≡ others n taken
@@ -119,7 +116,7 @@ others_distinct (suc n) taken = by (list_any (eqb n) taken) (others_distinct n t
 
 -- ---- the places of slots that have an entry that isn't below the cursor
 
-held_places : SpoolState → List OpenSlot → List ℕ
+abbrev held_places : SpoolState → List OpenSlot → List ℕ
 held_places s [] = []
 held_places s (slot ∷ slots) = cond (is_confirmed s slot) (held_places s slots) (slot.place ∷ held_places s slots)
 
@@ -200,7 +197,7 @@ one_slot (slot ∷ slots) x y apart cx cy is = elim (contained slot slots x cx) 
 
 -- ---- free slots
 
-used_places : SpoolState → List ℕ
+abbrev used_places : SpoolState → List ℕ
 used_places s = s.active.place ∷ held_places s s.older
 
 used_below : (s : SpoolState) → IsSound s → (q : ℕ) → list_any (eqb q) (used_places s) ≡ true → q < s.slots
