@@ -105,6 +105,8 @@ impl<'a, R: Clock + Eprint> Door for TcpDoor<'a, R> {
     /// where its peer went before it was accepted, or want of descriptors or memory; standard error says so, once a minute at
     /// most for a place. An error that lasts is a fault: the socket can't accept.
     ///
+    /// What was accepted is given once there is room for the memory that each connection takes.
+    ///
     /// The first accept waits until all doors of the net have begun, for three seconds at most, and then reports the places
     /// of those that have not: the system refused them a thread.
     fn accept(&mut self) -> Result<Option<TcpLink<'a, R>>, AcceptFault> {
@@ -116,6 +118,7 @@ impl<'a, R: Clock + Eprint> Door for TcpDoor<'a, R> {
             Ok((stream, peer)) => {
                 let (rt, reports) = (self.shared.rt, self.shared.reports);
                 let waits = self.shared.waits;
+                reports.budget().admit(rt, reports.is_quiet());
                 Ok(Some(TcpLink::accepted(rt, reports, stream, peer, waits)))
             }
             Err(_) => {

@@ -9,6 +9,7 @@ mod accepting;
 mod answer;
 mod asker;
 mod asking;
+mod budget;
 mod closing;
 mod counts;
 mod door;
@@ -34,6 +35,7 @@ mod watch;
 
 pub use accepting::next_connection;
 pub use answer::Answer;
+pub use budget::{Budget, LEAST_MEMORY, Part, STANDARD_MEMORY, most_of, part_of};
 pub use door::TcpDoor;
 pub use fullness::Fullness;
 pub use illness::Illness;

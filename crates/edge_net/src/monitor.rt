@@ -148,6 +148,7 @@ impl<R: Clock> TcpMonitor<'_, R> {
             numbers,
             is_full,
             counts,
+            self.reports.budget(),
             &self.roll,
             disk_fails,
             receiver_fails,

@@ -2,6 +2,7 @@
 ghost use Rattle.std.specs.Prelude.{◌≡◌};
 ghost use Rattle.edge_net.specs.Page.{spool_values};
 
+use crate::budget::Budget;
 use crate::counts::Counts;
 use crate::roll::Roll;
 use edge_io::{Proto, SpoolNumbers};
@@ -122,6 +123,25 @@ const FAILURES: [Head; 6] = [
         "bridge_disk_failing_seconds",
         "gauge",
         "Seconds since a call on FILE first failed; 0 while FILE is well.",
+    ),
+];
+
+// What memory the connections of senders take, in the order of `Budget::values`.
+const MEMORY: [Head; 3] = [
+    (
+        "bridge_memory_held_bytes",
+        "gauge",
+        "Bytes of memory that connections of senders have taken.",
+    ),
+    (
+        "bridge_memory_limit_bytes",
+        "gauge",
+        "Bytes of memory that connections of senders may take.",
+    ),
+    (
+        "bridge_memory_waiting",
+        "gauge",
+        "Connections of senders that wait for memory.",
     ),
 ];
 
@@ -253,12 +273,13 @@ pub(crate) fn escaped(alloc: Global, text: &str) -> Result<String, AllocError> {
 }
 
 /// All that those are told who ask for numbers, in Prometheus' text format: the numbers of the spool, and whether it is full; what was
-/// counted; the places at which senders connect; and for how many seconds calls of FILE and the receiver have failed, or 0.
+/// counted; what memory their connections take; the places at which senders connect; and for how many seconds calls of FILE and the receiver have failed, or 0.
 pub(crate) fn page(
     alloc: Global,
     numbers: &SpoolNumbers,
     is_full: bool,
     counts: &Counts,
+    budget: &Budget,
     roll: &Roll,
     disk_fails: u64,
     receiver_fails: u64,
@@ -270,5 +291,6 @@ pub(crate) fn page(
     write_ended(&mut text, roll)?;
     let values = failure_values(counts, disk_fails, receiver_fails);
     write_rows(&mut text, &FAILURES, &values)?;
+    write_rows(&mut text, &MEMORY, &budget.values())?;
     Ok(text)
 }

@@ -1,6 +1,7 @@
 //! What is said on standard error of the sockets.
-ghost use Rattle.std.specs.Prelude.{◌≡◌, true, false};
+ghost use Rattle.std.specs.Prelude.{◌≡◌, max, true, false};
 
+use crate::budget::{Budget, STANDARD_MEMORY};
 use crate::counts::Counts;
 use crate::hindrance::Hindrance;
 use crate::since::millis;
@@ -26,6 +27,7 @@ pub struct Reports {
     // How often something befell a sender's connection while another thread noted such a thing.
     overlooked: AtomicU64,
     counts: Counts,
+    budget: Budget,
 }
 
 // What a line about the receiver stands for beside what it says.
@@ -97,6 +99,18 @@ impl Reports {
             standstill: Mutex::new(Standstill::new()),
             overlooked: AtomicU64::new(0),
             counts: Counts::new(),
+            budget: Budget::new(STANDARD_MEMORY),
+        }
+    }
+
+    /// The same, where the connections of senders may take so many bytes of memory, or 16,777,216 where they are fewer.
+    pub fn with_memory(self, bytes: u64) -> Reports
+        ensures quiet { result.is_quiet ≡ self.is_quiet }
+        ensures bound { result.budget.bound ≡ max bytes 16_777_216 }
+    {
+        Reports {
+            budget: Budget::new(bytes),
+            ..self
         }
     }
 
@@ -110,6 +124,11 @@ impl Reports {
     /// What is counted, also where no line is printed.
     pub(crate) fn counts(&self) -> &Counts {
         &self.counts
+    }
+
+    /// The memory that the connections of senders take.
+    pub(crate) fn budget(&self) -> &Budget {
+        &self.budget
     }
 
     /// Since when calls of FILE fail, for whoever makes them to note.

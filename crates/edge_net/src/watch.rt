@@ -44,6 +44,11 @@ impl<'a, R> Watch<'a, R> {
             trouble: None,
         }
     }
+
+    /// A call waited for the peer for so long, in place of as long as any may.
+    pub(crate) fn waited(&mut self, wait: Duration) {
+        self.wait = self.wait.min(wait);
+    }
 }
 
 impl<R: Clock + Eprint> Watch<'_, R> {
