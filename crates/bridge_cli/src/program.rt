@@ -13,12 +13,16 @@ use std::io::{self, IsTerminal};
 use std::sync::{Arc, Wait};
 use std::thread::Threads;
 
-// What is said of the net, as the options have it.
+// What is said of the net, and how much memory its connections may take, as the options have it.
 fn reports_of(options: RunOptions) -> Reports {
-    if options.is_quiet {
+    let reports = if options.is_quiet {
         Reports::quiet()
     } else {
         Reports::new()
+    };
+    match options.memory {
+        Some(bytes) => reports.with_memory(bytes),
+        None => reports,
     }
 }
 

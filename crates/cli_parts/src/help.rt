@@ -47,6 +47,8 @@ Options, after the command's name:
   --out-channel GUID    drain, serve: the channel of the requests to it, any GUID
   --polls N             drain, serve: how often it is asked about an ack id, 1 to 1000 (60)
   --idle SECONDS        serve: how long a sender may be silent, 1 to 86400 (600)
+  --memory BYTES        serve: how much memory senders' connections may take, 16777216 to
+                        8589934592 (268435456)
   --quiet               any: standard error gets no line about the network
 
 Exit statuses; a line on standard error says more:

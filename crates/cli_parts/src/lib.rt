@@ -4,6 +4,7 @@
 
 mod arguments;
 mod backlog;
+mod bytes;
 mod confirming;
 mod digits;
 mod health;
