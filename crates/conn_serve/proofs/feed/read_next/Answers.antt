@@ -12,7 +12,7 @@ returns-in-Err g c =
       bound = tt;
       given = rw (← kept.0) read.given;
       left = rw (← kept.1) read.left;
-      cause = rw (← kept.2.0) read.cause;
+      cause = rw (← kept.2) read.cause;
       same = g.L.Object.same_trans _ _ _ first.same read.same;
       apart = g.met.L.Source.read_apart_trans _ _ _ first.reads read.apart;
     }
@@ -28,7 +28,7 @@ returns g c =
       bound = read.bound;
       given = rw (← kept.0, last.0) read.given;
       left = rw (← kept.1, last.1) read.left;
-      cause = rw (← kept.2.0, last.2.0) read.cause;
+      cause = rw (← kept.2, last.2) read.cause;
       same = g.L.Object.same_trans _ _ _ (g.L.Object.same_trans _ _ _ first.same read.same) second.same;
       apart = g.met.L.Source.read_apart_trans _ _ _ (g.met.L.Source.read_apart_trans _ _ _ first.reads read.apart) second.reads;
     }
