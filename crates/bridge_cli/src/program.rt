@@ -4,7 +4,8 @@ use cli_files::{SystemFiles, run_rescue, run_skip};
 use cli_parts::{
     Arguments, Ending, Host, NoArguments, RunOptions, Shown, StandardError, Taken, Told, Untaken,
     confirm, hold_streams, keep_freed, print_beside_usage, print_beside_wrong_option, print_ending,
-    print_line, print_note, print_start, rescue_of, skip_of, take_options, with_tokens,
+    print_line, print_note, print_start, rescue_of, skip_of, take_options, version_day,
+    with_tokens,
 };
 use edge_io::FileIo;
 use edge_net::{Reports, TcpNet, Waits};
@@ -15,11 +16,12 @@ use std::thread::Threads;
 
 // What is said of the net, as the options have it.
 fn reports_of(options: RunOptions) -> Reports {
-    if options.is_quiet {
+    let reports = if options.is_quiet {
         Reports::quiet()
     } else {
         Reports::new()
-    }
+    };
+    reports.of_version(version_day())
 }
 
 // How long the net waits, as the options have it.
@@ -63,7 +65,7 @@ fn run_arguments<R: Threads + Wait + Sync>(
     let reports = reports_of(options);
     let host = Host { rt, errors };
     let told = Told {
-        failing: reports.disk(),
+        file: reports.file(),
         errors,
     };
     let mut net = TcpNet::with_waits(rt.alloc(), &host, &reports, waits_of(options));

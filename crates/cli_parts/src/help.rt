@@ -75,6 +75,14 @@ pub(crate) fn version() -> &'static str {
     VERSION
 }
 
+/// The version without the program's name.
+pub fn version_day() -> &'static str {
+    match VERSION.strip_prefix("bridge ") {
+        Some(day) => day,
+        None => VERSION,
+    }
+}
+
 /// What words may ask for that are no command.
 #[derive(Clone, Copy, PartialEq, Eq)]
 pub(crate) enum Question {

@@ -34,6 +34,7 @@ pub use arguments::{Arguments, NoArguments};
 pub use backlog::{Backlog, Batch};
 pub use confirming::confirm;
 pub use health::{Told, Waiting};
+pub use help::version_day;
 pub use making::make_disk;
 pub use memory::keep_freed;
 pub use opening::{Opening, Showing};

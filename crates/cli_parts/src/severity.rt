@@ -7,13 +7,19 @@ use std::{env, fs, str};
 const MOST_NAMED: usize = 41;
 
 // Lines of what goes as it should begin so.
-const INFORMS: [&str; 2] = ["bridge: listening on ", "bridge: bridge "];
+const INFORMS: [&str; 4] = [
+    "bridge: listening on ",
+    "bridge: bridge ",
+    "bridge: run ",
+    "bridge: FILE has room again",
+];
 
-// Lines about a peer begin so: bridge itself goes on.
-const WARNS: [&str; 3] = [
+// Lines about a peer, and about room, begin so: bridge itself goes on.
+const WARNS: [&str; 4] = [
     "bridge: sender ",
     "bridge: senders at ",
     "bridge: receiver ",
+    "bridge: FILE has no room",
 ];
 
 // Other lines about what passes, or is served late, end so.

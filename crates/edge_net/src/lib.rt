@@ -6,12 +6,14 @@
 #![tactic(auto)]
 
 mod accepting;
+mod ages;
 mod answer;
 mod asker;
 mod asking;
 mod closing;
 mod counts;
 mod door;
+mod file_counts;
 mod fullness;
 mod hindrance;
 mod illness;
@@ -35,6 +37,7 @@ mod watch;
 pub use accepting::next_connection;
 pub use answer::Answer;
 pub use door::TcpDoor;
+pub use file_counts::FileCounts;
 pub use fullness::Fullness;
 pub use illness::Illness;
 pub use link::{LinkSettings, TcpLink};

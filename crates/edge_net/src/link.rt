@@ -250,7 +250,7 @@ impl<R: Clock + Eprint> Sink for TcpLink<'_, R> {
         }
         match write_on(&mut self.stream, piece) {
             Ok(n) if n > 0 || piece.is_empty() => {
-                self.watch.saw_write(piece);
+                self.watch.saw_write(piece, n);
                 Ok(n)
             }
             Err(error) if self.place.is_some() && is_reset(error.kind()) => {

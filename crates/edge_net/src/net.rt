@@ -116,8 +116,8 @@ fn doors_over<'a, R>(
     Ok(made)
 }
 
-// A monitor over a socket that listens at the place. The error is the system's.
-fn monitor_at<'a, R: net::Net<Stream = TcpStream, Listener = TcpListener>>(
+// A monitor over a socket that listens at the place, of a run that begins now. The error is the system's.
+fn monitor_at<'a, R: net::Net<Stream = TcpStream, Listener = TcpListener> + Clock>(
     alloc: Global,
     rt: &'a R,
     reports: &'a Reports,
@@ -125,7 +125,11 @@ fn monitor_at<'a, R: net::Net<Stream = TcpStream, Listener = TcpListener>>(
     place: &str,
 ) -> io::Result<TcpMonitor<'a, R>> {
     let listener = TcpListener::bind(rt, place)?;
-    TcpMonitor::over(alloc, rt, reports, roll, listener)
+    let began = match rt.since_1970() {
+        Ok(since) => since.as_secs(),
+        Err(_) => 0,
+    };
+    TcpMonitor::over(alloc, rt, reports, roll, listener, began)
 }
 
 // Connects to the first of the host's addresses that answers, and waits for each for as long as `wait` at most. The error is that of

@@ -7,9 +7,11 @@ use std::net::IpAddr;
 /// What befell a connection that was accepted.
 #[derive(Clone, Copy, PartialEq, Eq)]
 pub enum Matter {
-    /// A request of HTTP was answered with this status, which says that it was refused.
+    /// A request of HTTP was answered with this status, which says that it was refused, and with the number of a reason, where the answer
+    /// has one.
     RequestRefused {
         code: u16,
+        reason: Option<u16>,
     },
     /// A frame of RELP was answered with this code, which says that it was refused.
     FrameRefused {
@@ -58,11 +60,42 @@ fn meaning_of(status: u8) -> &'static str {
     }
 }
 
+// Why the collector refuses a request, by the number of its reason ("Troubleshoot HTTP Event Collector", possible error codes).
+fn words_of(reason: u16) -> &'static str {
+    match reason {
+        2 => "it has no token",
+        3 => "its field Authorization names no token",
+        4 => "its token isn't known",
+        5 => "it has no event",
+        6 => "its body isn't one that is taken",
+        8 => "it can't be stored",
+        9 => "FILE has no room for it, or the table of ack ids is full",
+        10 => "it names no channel",
+        11 => "its channel is no GUID",
+        12 => "an object has no event",
+        13 => "an event is blank",
+        14 => "its token has no ack ids",
+        16 => "its token stands in the query",
+        404 => "nothing is at its path",
+        405 => "its path has another method",
+        _ => "see its code",
+    }
+}
+
 /// Words that follow the peer's address, as `a request was refused with 401`.
 impl fmt::Display for Matter {
     fn fmt<W: fmt::Write>(&self, f: &mut fmt::Formatter<W>) -> fmt::Result {
         match *self {
-            Matter::RequestRefused { code } => write!(f, "a request was refused with {code}"),
+            Matter::RequestRefused { code, reason } => {
+                write!(f, "a request was refused with {code}")?;
+                match reason {
+                    Some(number) => {
+                        let words = words_of(number);
+                        write!(f, ", code {number}: {words}")
+                    }
+                    None => Ok(()),
+                }
+            }
             Matter::FrameRefused { code } => write!(f, "a frame was refused with {code}"),
             Matter::Ended {
                 proto,

@@ -1,4 +1,5 @@
 //! What is seen of a connection, for the lines about it.
+use crate::answer::reason_in;
 use crate::trouble::Way;
 use crate::{Answer, Illness, Matter, Reports, Trouble};
 use edge_io::Proto;
@@ -70,7 +71,7 @@ impl<R: Clock + Eprint> Watch<'_, R> {
             self.has_read = true;
         }
         let Some(place) = place else {
-            return;
+            return self.reports.counts().received.add_many(bytes.len() as u64);
         };
         if bytes.is_empty() {
             let illness = self.closing();
@@ -90,10 +91,10 @@ impl<R: Clock + Eprint> Watch<'_, R> {
         }
     }
 
-    /// A write took this piece, or its beginning.
-    pub(crate) fn saw_write(&mut self, piece: &[u8]) {
+    /// A write took so many bytes of this piece.
+    pub(crate) fn saw_write(&mut self, piece: &[u8], taken: usize) {
         let Some(peer) = self.peer else {
-            return;
+            return self.reports.counts().sent.add_many(taken as u64);
         };
         let Some(answer) = Answer::at(piece) else {
             return;
@@ -102,11 +103,14 @@ impl<R: Clock + Eprint> Watch<'_, R> {
             return;
         };
         let matter = match answer {
-            Answer::Reply { .. } => Matter::RequestRefused { code },
+            Answer::Reply { .. } => Matter::RequestRefused {
+                code,
+                reason: reason_in(piece),
+            },
             Answer::Frame { .. } => Matter::FrameRefused { code },
         };
         self.is_said = true;
-        self.reports.counts().refusals.add();
+        self.reports.counts().refusals.add(answer);
         self.reports.sender(self.rt, peer, matter);
     }
 

@@ -76,7 +76,7 @@ const HELD_UP: [(HeldUp, Option<&str>); 8] = [
 ];
 
 // Waits of a second for a peer, and none of doors for each other.
-fn waits() -> Waits {
+pub(crate) fn waits() -> Waits {
     Waits {
         accepted: Duration::from_secs(1),
         dialed: Duration::from_secs(1),
@@ -119,7 +119,7 @@ fn assert_sender(rt: &impl Abort, staged: &Staged<'_>, words: &str) {
 }
 
 // A door that is bound at the place, which is said.
-fn bound<'a, 'h>(
+pub(crate) fn bound<'a, 'h>(
     rt: &impl Abort,
     staged: &Staged<'_>,
     net: &mut StagedNet<'a, 'h>,
@@ -131,7 +131,7 @@ fn bound<'a, 'h>(
 }
 
 // A link that is dialed, and the one that is accepted for it.
-fn pair<'a, 'h>(
+pub(crate) fn pair<'a, 'h>(
     rt: &impl Abort,
     net: &mut StagedNet<'a, 'h>,
     door: &mut StagedDoor<'a, 'h>,
@@ -143,7 +143,12 @@ fn pair<'a, 'h>(
 }
 
 // Sends the text, which the other link reads.
-fn pass(rt: &impl Abort, from: &mut StagedLink<'_, '_>, to: &mut StagedLink<'_, '_>, text: &str) {
+pub(crate) fn pass(
+    rt: &impl Abort,
+    from: &mut StagedLink<'_, '_>,
+    to: &mut StagedLink<'_, '_>,
+    text: &str,
+) {
     let mut buf = [0u8; 64];
     assert!(rt; from.write(text.as_bytes()) == Ok(text.len()));
     assert!(rt; to.read(&mut buf) == Ok(text.len()));
@@ -409,6 +414,22 @@ fn refusals_are_said_by_their_codes(
     for (text, words) in [
         ("HTTP/1.1 401 No\r\n", ": a request was refused with 401"),
         ("HTTP/1.1 503 No\r\n", ": a request was refused with 503"),
+        (
+            "HTTP/1.1 401 No\r\n\r\n{\"text\":\"Token is required\",\"code\":2}",
+            ": a request was refused with 401, code 2: it has no token",
+        ),
+        (
+            "HTTP/1.1 403 No\r\n\r\n{\"text\":\"Invalid token\",\"code\":4}",
+            ": a request was refused with 403, code 4: its token isn't known",
+        ),
+        (
+            "HTTP/1.1 400 No\r\n\r\n{\"text\":\"ACK is disabled\",\"code\":14}",
+            ": a request was refused with 400, code 14: its token has no ack ids",
+        ),
+        (
+            "HTTP/1.1 400 No\r\n\r\n{\"code\":6,\"invalid-event-number\":1}",
+            ": a request was refused with 400, code 6: its body isn't one that is taken",
+        ),
         ("2 rsp 12 500 not open\n", ": a frame was refused with 500"),
     ] {
         let (mut near, mut far) = pair(rt, net, &mut door, place);
