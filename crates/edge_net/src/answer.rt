@@ -55,6 +55,9 @@ fn frame_code(bytes: &[u8]) -> Option<u16> {
 // What stands before the number of a reply's reason in its body.
 const REASON: &[u8] = b"\"code\":";
 
+// The field of a reply after which its connection is closed.
+const CLOSES: [u8; 17] = *b"Connection: close";
+
 // The number that the bytes begin with.
 fn number_at(bytes: &[u8]) -> u16 {
     let mut number = 0u16;
@@ -77,6 +80,11 @@ pub(crate) fn reason_in(reply: &[u8]) -> Option<u16> {
         }
     }
     None
+}
+
+/// Whether a reply says that it is the last one of its connection.
+pub(crate) fn closes(reply: &[u8]) -> bool {
+    reply.windows(17).any(|part| part == CLOSES.as_slice())
 }
 
 impl Answer {

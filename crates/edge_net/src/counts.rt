@@ -1,15 +1,13 @@
 //! What a net counts, for those who ask for numbers.
 use crate::{Answer, FileCounts, Since};
 use edge_io::{HeldUp, Proto};
+use event_form::Talk;
 use std::alloc::{AllocError, Global};
 use std::sync::OnceLock;
 use std::sync::atomic::{AtomicU64, Ordering};
 
 // How many statuses an ending may have.
 const STATUSES: usize = 256;
-
-// The status of an ending where FILE had no room for an event.
-const NO_ROOM: u8 = 67;
 
 /// How often something came, which threads count together.
 #[derive(Drop)]
@@ -49,6 +47,8 @@ pub(crate) struct Connections {
     proto: OnceLock<Proto>,
     // How many have ended, by the status of their ending.
     ended: Vec<Count>,
+    // How many have ended since FILE had no room for an event.
+    without_room: Count,
 }
 
 impl Connections {
@@ -62,6 +62,7 @@ impl Connections {
             accepted: Count::new(),
             proto: OnceLock::new(),
             ended,
+            without_room: Count::new(),
         })
     }
 
@@ -70,8 +71,11 @@ impl Connections {
         self.accepted.add();
     }
 
-    /// That one has ended, by this protocol and with this status.
-    pub(crate) fn end(&self, proto: Proto, status: u8) {
+    /// That one has ended, by this protocol, so and with this status.
+    pub(crate) fn end(&self, proto: Proto, talk: Talk, status: u8) {
+        if matches!(talk, Talk::Full { .. }) {
+            self.without_room.add();
+        }
         let _ = self.proto.try_set(proto);
         if let Some(count) = self.ended.get(usize::from(status)) {
             count.add();
@@ -104,10 +108,7 @@ impl Connections {
 
     /// How many have ended since FILE had no room for an event.
     pub(crate) fn without_room(&self) -> u64 {
-        match self.ended.get(usize::from(NO_ROOM)) {
-            Some(count) => count.get(),
-            None => 0,
-        }
+        self.without_room.get()
     }
 }
 

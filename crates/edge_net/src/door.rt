@@ -5,6 +5,7 @@ use crate::accepting::next_connection;
 use crate::roll::{Place, Roll};
 use crate::{Reports, TcpLink, Waits};
 use edge_io::{AcceptFault, Door, Proto};
+use event_form::Talk;
 use std::alloc::AllocError;
 use std::io;
 use std::net::{SocketAddr, TcpListener, TcpStream};
@@ -107,7 +108,7 @@ impl<'a, R: Clock + Eprint> Door for TcpDoor<'a, R> {
     ///
     /// The first accept waits until all doors of the net have begun, for three seconds at most, and then reports the places
     /// of those that have not: the system refused them a thread.
-    fn accept(&mut self) -> Result<Option<TcpLink<'a, R>>, AcceptFault> {
+    fn accept(&mut self, conn: u64) -> Result<Option<TcpLink<'a, R>>, AcceptFault> {
         if !self.has_begun {
             self.has_begun = true;
             self.shared.begin();
@@ -116,7 +117,7 @@ impl<'a, R: Clock + Eprint> Door for TcpDoor<'a, R> {
             Ok((stream, peer)) => {
                 let (rt, reports) = (self.shared.rt, self.shared.reports);
                 let waits = self.shared.waits;
-                Ok(Some(TcpLink::accepted(rt, reports, stream, peer, waits)))
+                Ok(Some(TcpLink::accepted(rt, reports, stream, peer, conn, waits)))
             }
             Err(_) => {
                 self.accept_errors = self.accept_errors.saturating_add(1);
@@ -134,12 +135,13 @@ impl<'a, R: Clock + Eprint> Door for TcpDoor<'a, R> {
         link: TcpLink<'a, R>,
         proto: Proto,
         _: u64,
+        talk: Talk,
         status: u8,
     ) -> Result<(), AllocError> {
         self.read_errors = self.read_errors.saturating_add(link.read_errors());
         self.write_errors = self.write_errors.saturating_add(link.write_errors());
-        self.shared.place.connections.end(proto, status);
-        link.close_served(self.shared.rt, proto, status);
+        self.shared.place.connections.end(proto, talk, status);
+        link.close_served(self.shared.rt, proto, talk, status);
         Ok(())
     }
 }

@@ -3,9 +3,10 @@ ghost use Rattle.std.specs.Prelude.{◌≡◌, ◌≤◌, length, IfOk};
 
 use crate::closing::close_after_peer;
 use crate::trouble::{Way, is_reset};
-use crate::watch::Watch;
+use crate::watch::{Peer, Watch};
 use crate::{Reports, Waits};
 use edge_io::{Link, Object, Proto, ReadFault, Sink, Source, WriteFault};
+use event_form::Talk;
 use std::io::{self, ErrorKind, Read, Write};
 use std::net::{SocketAddr, TcpStream};
 use std::rt::Clock;
@@ -69,18 +70,27 @@ impl<'a, R> TcpLink<'a, R> {
         }
     }
 
-    /// The link of a connection that was accepted from this peer.
+    /// The link of a connection that was accepted from this peer, and has this number.
     pub(crate) fn accepted(
         rt: &'a R,
         reports: &'a Reports,
         stream: TcpStream,
         peer: SocketAddr,
+        conn: u64,
         waits: Waits,
     ) -> TcpLink<'a, R>
         ensures unfailed { IsUnfailed result }
         ensures place { place_of result ≡ None }
     {
-        let watch = Watch::of(rt, reports, Some(peer), waits.accepted);
+        let watch = Watch::of(
+            rt,
+            reports,
+            Some(Peer {
+                address: peer,
+                conn,
+            }),
+            waits.accepted,
+        );
         TcpLink::over(stream, None, waits.accepted, watch)
     }
 
@@ -124,11 +134,11 @@ impl<'a, R> TcpLink<'a, R> {
 }
 
 impl<R: Clock + Eprint> TcpLink<'_, R> {
-    /// Says how the connection ended, where that isn't well: it was served to its end by this protocol, and the exit status that
+    /// Says how the connection ended, where that isn't well: it was served to its end by this protocol, ended so, and the exit status that
     /// stands for its ending is this one. Then closes it so that its peer gets what was written last. What the peer still sends
     /// meanwhile is dropped, and counts as unread.
-    pub(crate) fn close_served(self, rt: &R, proto: Proto, status: u8) {
-        self.watch.ended(proto, status);
+    pub(crate) fn close_served(self, rt: &R, proto: Proto, talk: Talk, status: u8) {
+        self.watch.ended(proto, talk, status);
         close_after_peer(rt, self.stream)
     }
 

@@ -2,11 +2,13 @@
 ghost use Rattle.std.specs.Prelude.{◌≡◌, true, false};
 
 use crate::counts::Counts;
+use crate::figures::Figures;
 use crate::hindrance::Hindrance;
 use crate::page::{pending_of, room_of};
 use crate::since::millis;
 use crate::{FileCounts, Illness, Line, Matter, Receiver, Recent, Since, Standstill, Topic};
 use edge_io::{HeldUp, SpoolNumbers};
+use event_form::Talk;
 use std::net::SocketAddr;
 use std::rt::Clock;
 use std::sync::Mutex;
@@ -21,6 +23,8 @@ use std::{fmt, io};
 #[derive(Drop)]
 pub struct Reports {
     is_quiet: bool,
+    // It is printed which number the connection of each sender has.
+    is_verbose: bool,
     // The version that runs, or nothing.
     version: &'static str,
     senders: Mutex<Recent>,
@@ -95,6 +99,7 @@ impl Reports {
     {
         Reports {
             is_quiet,
+            is_verbose: false,
             version: "",
             senders: Mutex::new(Recent::new()),
             receiver: Mutex::new(Receiver::new()),
@@ -109,6 +114,20 @@ impl Reports {
         ensures { result.is_quiet ≡ self.is_quiet }
     {
         Reports { version, ..self }
+    }
+
+    /// The same, and the number of each sender's connection is printed where `is_verbose` says so, unless nothing is.
+    pub fn with_verbose(self, is_verbose: bool) -> Reports
+        ensures { result.is_quiet ≡ self.is_quiet }
+    {
+        Reports { is_verbose, ..self }
+    }
+
+    /// That the first bytes came of this peer, whose connection has this number.
+    pub(crate) fn begins_to_send(&self, rt: &impl Eprint, peer: SocketAddr, conn: u64) {
+        if self.is_verbose && !self.is_quiet {
+            let _ = eprintln!(rt; "bridge: sender {peer}: connection {conn}");
+        }
     }
 
     /// The version that runs.
@@ -182,8 +201,14 @@ impl Reports {
         }
     }
 
-    /// That this befell the connection of this peer.
-    pub(crate) fn sender(&self, rt: &(impl Clock + Eprint), peer: SocketAddr, matter: Matter) {
+    /// That this befell the connection of this peer, which ended so if it ended.
+    pub(crate) fn sender(
+        &self,
+        rt: &(impl Clock + Eprint),
+        peer: SocketAddr,
+        matter: Matter,
+        talk: Option<Talk>,
+    ) {
         if self.is_quiet {
             return;
         }
@@ -192,7 +217,8 @@ impl Reports {
             matter,
         };
         if let Some(line) = self.line_about(rt, topic) {
-            let _ = eprintln!(rt; "bridge: sender {peer}: {matter}{line}");
+            let figures = Figures { talk };
+            let _ = eprintln!(rt; "bridge: sender {peer}: {matter}{figures}{line}");
         }
     }
 

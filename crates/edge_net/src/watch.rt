@@ -1,12 +1,23 @@
 //! What is seen of a connection, for the lines about it.
-use crate::answer::reason_in;
+use crate::answer::{closes, reason_in};
+use crate::topic::{Refused, kind_of};
 use crate::trouble::Way;
 use crate::{Answer, Illness, Matter, Reports, Trouble};
 use edge_io::Proto;
+use event_form::Talk;
 use std::io;
 use std::net::SocketAddr;
 use std::rt::Clock;
 use std::time::Duration;
+
+/// The peer of a connection that was accepted.
+#[derive(Clone, Copy)]
+pub(crate) struct Peer {
+    /// Its address.
+    pub(crate) address: SocketAddr,
+    /// The connection's number.
+    pub(crate) conn: u64,
+}
 
 /// What is seen of a connection, and where it is said. It changes nothing of the connection.
 #[derive(Drop)]
@@ -14,7 +25,7 @@ pub(crate) struct Watch<'a, R> {
     rt: &'a R,
     reports: &'a Reports,
     // The peer, where the connection was accepted.
-    peer: Option<SocketAddr>,
+    peer: Option<Peer>,
     // How long a call waits for the peer.
     wait: Duration,
     has_read: bool,
@@ -22,6 +33,8 @@ pub(crate) struct Watch<'a, R> {
     has_reply: bool,
     // A line was asked for about it, or its end is no news after what was seen.
     is_said: bool,
+    // What it was refused as it was closed, of which no line was asked for yet.
+    last: Option<Refused>,
     // What a call met last that failed.
     trouble: Option<Trouble>,
 }
@@ -31,7 +44,7 @@ impl<'a, R> Watch<'a, R> {
     pub(crate) fn of(
         rt: &'a R,
         reports: &'a Reports,
-        peer: Option<SocketAddr>,
+        peer: Option<Peer>,
         wait: Duration,
     ) -> Watch<'a, R> {
         Watch {
@@ -42,6 +55,7 @@ impl<'a, R> Watch<'a, R> {
             has_read: false,
             has_reply: false,
             is_said: false,
+            last: None,
             trouble: None,
         }
     }
@@ -67,8 +81,12 @@ impl<R: Clock + Eprint> Watch<'_, R> {
 
     /// A read that asked for some bytes gave these. Where the connection was dialed, `place` is where.
     pub(crate) fn saw_read(&mut self, place: Option<&str>, bytes: &[u8]) {
-        if !bytes.is_empty() {
+        if !bytes.is_empty() && !self.has_read {
             self.has_read = true;
+            if let Some(peer) = self.peer {
+                self.reports
+                    .begins_to_send(self.rt, peer.address, peer.conn);
+            }
         }
         let Some(place) = place else {
             return self.reports.counts().received.add_many(bytes.len() as u64);
@@ -102,16 +120,23 @@ impl<R: Clock + Eprint> Watch<'_, R> {
         let Some(code) = answer.refusal() else {
             return;
         };
+        self.reports.counts().refusals.add(answer);
         let matter = match answer {
-            Answer::Reply { .. } => Matter::RequestRefused {
-                code,
-                reason: reason_in(piece),
-            },
+            Answer::Reply { .. } => {
+                let refused = Refused {
+                    code,
+                    reason: reason_in(piece),
+                };
+                if closes(piece) {
+                    self.last = Some(refused);
+                    return;
+                }
+                Matter::RequestRefused { refused }
+            }
             Answer::Frame { .. } => Matter::FrameRefused { code },
         };
         self.is_said = true;
-        self.reports.counts().refusals.add(answer);
-        self.reports.sender(self.rt, peer, matter);
+        self.reports.sender(self.rt, peer.address, matter, None);
     }
 
     /// A read or a write failed by this error.
@@ -127,20 +152,26 @@ impl<R: Clock + Eprint> Watch<'_, R> {
         self.fails(place, Illness::Lost { trouble });
     }
 
-    /// A connection that was accepted was served to its end, by this protocol and with this exit status.
-    pub(crate) fn ended(&self, proto: Proto, status: u8) {
-        let is_unused = !self.has_read && self.trouble == Some(Trouble::Reset);
-        if status == 0 || self.is_said || is_unused {
+    /// A connection that was accepted was served to its end by this protocol, and ended so, with this exit status. What it was refused at
+    /// last is said now, with how it ended where that says why.
+    pub(crate) fn ended(&self, proto: Proto, talk: Talk, status: u8) {
+        let Some(peer) = self.peer else {
             return;
-        }
-        if let Some(peer) = self.peer {
-            let matter = Matter::Ended {
+        };
+        let is_unused = !self.has_read && self.trouble == Some(Trouble::Reset);
+        let matter = match self.last {
+            Some(refused) if status == 0 => Matter::RequestRefused { refused },
+            last if status == 0 || is_unused || (last.is_none() && self.is_said) => return,
+            last => Matter::Ended {
                 proto,
                 status,
+                refused: last,
+                kind: kind_of(talk),
                 trouble: self.trouble,
-            };
-            self.reports.sender(self.rt, peer, matter);
-        }
+            },
+        };
+        self.reports
+            .sender(self.rt, peer.address, matter, Some(talk));
     }
 
     /// A connection that was dialed at this place was hung up.

@@ -68,14 +68,14 @@ fn serve_next<P: Door, A: Access>(
     ensures stops { IfErr result (Stops rules.now conn (P.told door.old) (P.told door.new) (λ calls. A.ran access.old calls access.new)) }
     ensures stays { OnOk result ((k : ℕ) (read text : List ℕ) → P.permits door.old (k + 1) read text → P.permits door.new k read text) }
 {
-    let mut link = match door.accept() {
+    let mut link = match door.accept(conn) {
         Ok(Some(link)) => link,
         Ok(None) => return Err(WorkerEnd::Shut),
         Err(_) => return Err(WorkerEnd::AcceptFault),
     };
     let attended = attend(alloc, &mut link, rules, access, conn);
     let status = Note::of_talk(attended.talk).status();
-    match door.give_back(link, rules.proto, conn, status) {
+    match door.give_back(link, rules.proto, conn, attended.talk, status) {
         Ok(()) => Ok(()),
         Err(_) => Err(WorkerEnd::NoMemory),
     }

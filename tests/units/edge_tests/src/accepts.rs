@@ -146,7 +146,7 @@ fn doors_that_nobody_serves_are_reported(
     assert!(rt; staged.take_lines(rt).len() == 2);
     let first = net.dial(one.as_str()).expect(rt, "a port that listens");
     let mut door = doors.pop().expect(rt, "two doors");
-    assert!(rt; matches!(door.accept(), Ok(Some(_))));
+    assert!(rt; matches!(door.accept(0), Ok(Some(_))));
     // by looks of 10 milliseconds
     assert!(rt; staged.take_sleeps(rt).as_slice() == [10; 300].as_slice());
     let lines = staged.take_lines(rt);

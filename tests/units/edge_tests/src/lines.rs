@@ -1,5 +1,5 @@
 //! Which lines are due, by times that are given.
-use edge_net::{Answer, Illness, Line, Matter, Pace, Receiver, Recent, Standstill, Topic};
+use edge_net::{Answer, Illness, Line, Matter, Pace, Receiver, Recent, Refused, Standstill, Topic};
 use std::net::{IpAddr, Ipv4Addr};
 use std::process::Abort;
 
@@ -7,7 +7,9 @@ use std::process::Abort;
 fn topic(peer: u8, code: u16) -> Topic {
     Topic {
         peer: IpAddr::V4(Ipv4Addr::new(10, 0, 0, peer)),
-        matter: Matter::RequestRefused { code, reason: None },
+        matter: Matter::RequestRefused {
+            refused: Refused { code, reason: None },
+        },
     }
 }
 

@@ -2,6 +2,7 @@
 use crate::sockets::{bound, free_place, pair};
 use edge_io::{Door, EventCounts, Monitor, Net, NetFault, Proto, Sink, SpoolNumbers};
 use edge_net::{Reports, TcpMonitor, TcpNet, Waits};
+use event_form::{Talk, Why};
 use std::io::{self, Read, Write};
 use std::net::{Shutdown, TcpStream};
 use std::process::Abort;
@@ -57,6 +58,12 @@ const TOLD: [&str; 16] = [
 const METRICS: &str = "GET /metrics HTTP/1.1\r\nHost: bridge\r\n\r\n";
 
 const HEALTH: &str = "GET /health HTTP/1.1\r\n\r\n";
+
+// The bytes of a sender break its protocol.
+const BROKEN: Talk = Talk::Fault {
+    at: 7,
+    why: Why::BadHead,
+};
 
 type HostMonitor<'a> = TcpMonitor<'a, HostRuntime>;
 
@@ -323,12 +330,12 @@ fn health(
     text
 }
 
-// A connection of a sender comes, and ends with this status.
-fn serve_one(rt: &impl Abort, net: &mut TcpNet<'_, HostRuntime>, place: &str, status: u8) {
+// A connection of a sender comes, and ends so, with 67.
+fn serve_one(rt: &impl Abort, net: &mut TcpNet<'_, HostRuntime>, place: &str, talk: Talk) {
     let mut door = bound(rt, net, place);
     let (near, far) = pair(rt, net, &mut door, place);
     net.hang_up(near);
-    assert!(rt; door.give_back(far, Proto::Relp, 0, status).is_ok());
+    assert!(rt; door.give_back(far, Proto::Relp, 0, talk, 67).is_ok());
 }
 
 fn health_says_what_is_wrong(
@@ -344,7 +351,19 @@ fn health_says_what_is_wrong(
         assert_answer(rt, &text, "200 OK") == "ok\n",
         "nothing was refused"
     );
-    serve_one(rt, &mut net, &free_place(rt, host), 67);
+    for talk in [
+        Talk::TooLarge { need: 9, most: 8 },
+        Talk::Busy { held: 10_000 },
+    ] {
+        serve_one(rt, &mut net, &free_place(rt, host), talk);
+        let text = health(rt, host, &mut monitor, &place, &FULL);
+        assert!(rt;
+            assert_answer(rt, &text, "200 OK") == "ok\n",
+            "it isn't FILE that has no room"
+        );
+    }
+    let full = Talk::Full { need: 9, room: 8 };
+    serve_one(rt, &mut net, &free_place(rt, host), full);
     let wrong = "503 Service Unavailable";
     for _ in 0..2 {
         let text = health(rt, host, &mut monitor, &place, &FULL);
@@ -410,7 +429,7 @@ fn connections_are_counted(rt: &(impl Abort + AllocGlobal), host: &HostRuntime) 
     assert_page(rt, host, &mut monitor, &place, &lines);
     assert!(rt; far.write(b"HTTP/1.1 400 No\r\n").is_ok());
     net.hang_up(near);
-    assert!(rt; door.give_back(far, Proto::Hec, 0, 66).is_ok());
+    assert!(rt; door.give_back(far, Proto::Hec, 0, BROKEN, 66).is_ok());
     assert!(rt; net.dial("127.0.0.1").is_err());
     let rest = ",protocol=\"hec\",status=\"66\"} 1";
     let ended = sample(rt, "ended_total", &senders, rest);

@@ -3,6 +3,7 @@ use crate::sockets::free_place;
 use crate::staged::Staged;
 use edge_io::{Door, HeldUp, Net, Pause, Proto, Sink, Source};
 use edge_net::{Reports, TcpDoor, TcpLink, TcpNet, Waits};
+use event_form::{Talk, Why};
 use std::alloc::Global;
 use std::process::Abort;
 use std::time::Duration;
@@ -75,6 +76,85 @@ const HELD_UP: [(HeldUp, Option<&str>); 8] = [
     ),
 ];
 
+// The bytes of a sender break its protocol.
+const BROKEN: Talk = Talk::Fault {
+    at: 7,
+    why: Why::BadHead,
+};
+
+// Why bytes break a protocol, and the words for it.
+const WORDS: [(Why, &str); 14] = [
+    (Why::Digits, "digits"),
+    (Why::Space, "space"),
+    (Why::Command, "command"),
+    (Why::TooLong, "too long"),
+    (Why::Trailer, "trailer"),
+    (Why::Version, "version"),
+    (Why::Kind, "type"),
+    (Why::Compressed, "compressed"),
+    (Why::AckFromWriter, "ack from writer"),
+    (Why::TooMany, "too many"),
+    (Why::BadHead, "bad head"),
+    (Why::BadLength, "bad length"),
+    (Why::BadChunk, "bad chunk"),
+    (Why::Reply, "bad reply"),
+];
+
+// How connections end, their statuses, and what is said of each.
+const ENDINGS: [(Talk, u8, &str); 10] = [
+    (
+        Talk::Fault {
+            at: 0,
+            why: Why::Version,
+        },
+        66,
+        " ended with 66: its bytes break the protocol at byte 0: version",
+    ),
+    (
+        Talk::Full {
+            need: 300,
+            room: 20,
+        },
+        67,
+        ": its Lumberjack connection ended with 67: FILE has no room; 300 bytes needed, 20 free",
+    ),
+    (
+        Talk::TooLarge {
+            need: 300,
+            most: 200,
+        },
+        67,
+        " ended with 67: an event is too large for a slot; 300 bytes needed, 200 at most",
+    ),
+    (
+        Talk::Busy { held: 10_000 },
+        67,
+        " ended with 67: the table of ack ids is full; it holds 10000",
+    ),
+    (
+        Talk::Truncated { at: 12 },
+        75,
+        " ended with 75: it ended in a frame at byte 12",
+    ),
+    (Talk::NoMemory, 70, " ended with 70: no memory"),
+    (Talk::DiskFault, 73, " ended with 73: a call on FILE failed"),
+    (
+        Talk::NotSpool { at: 4_096 },
+        65,
+        " ended with 65: FILE is no spool at byte 4096",
+    ),
+    (
+        Talk::TooMuch { at: 1 },
+        77,
+        " ended with 77: it sent as much as a connection may",
+    ),
+    (
+        Talk::Spent { end: 1 },
+        77,
+        " ended with 77: the numbers of entries are spent",
+    ),
+];
+
 // Waits of a second for a peer, and none of doors for each other.
 pub(crate) fn waits() -> Waits {
     Waits {
@@ -138,7 +218,7 @@ pub(crate) fn pair<'a, 'h>(
     place: &str,
 ) -> (StagedLink<'a, 'h>, StagedLink<'a, 'h>) {
     let near = net.dial(place).expect(rt, "a port that listens");
-    let far = door.accept().expect(rt, "a connection waits");
+    let far = door.accept(5).expect(rt, "a connection waits");
     (near, far.expect(rt, "no door is shut"))
 }
 
@@ -319,45 +399,59 @@ fn an_entry_that_is_held_up_is_said(
     assert_receiver(rt, staged, "nowhere", line);
 }
 
-// A sender's connection is served to its end, which has this status.
+// A sender's connection is served to its end, which has this status, and ends so.
 fn serve_to<'a, 'h>(
     rt: &impl Abort,
     net: &mut StagedNet<'a, 'h>,
     door: &mut StagedDoor<'a, 'h>,
     place: &str,
     proto: Proto,
+    talk: Talk,
     status: u8,
 ) {
     let (near, far) = pair(rt, net, door, place);
     net.hang_up(near);
-    assert!(rt; door.give_back(far, proto, 0, status).is_ok());
+    assert!(rt; door.give_back(far, proto, 0, talk, status).is_ok());
 }
 
 fn endings_are_said_once_a_minute(
     rt: &impl Abort,
+    alloc: Global,
     staged: &Staged<'_>,
     net: &mut StagedNet<'_, '_>,
     place: &str,
 ) {
     let mut door = bound(rt, staged, net, place);
-    serve_to(rt, net, &mut door, place, Proto::Relp, 0);
+    serve_to(rt, net, &mut door, place, Proto::Relp, Talk::Ended, 0);
     assert_silence(rt, staged);
-    let words = ": its RELP connection ended with 66: its bytes break the protocol";
-    serve_to(rt, net, &mut door, place, Proto::Relp, 66);
+    let fault = |at| Talk::Fault {
+        at,
+        why: Why::TooLong,
+    };
+    let words =
+        ": its RELP connection ended with 66: its bytes break the protocol at byte 23: too long";
+    serve_to(rt, net, &mut door, place, Proto::Relp, fault(23), 66);
     assert_sender(rt, staged, words);
-    serve_to(rt, net, &mut door, place, Proto::Relp, 66);
-    serve_to(rt, net, &mut door, place, Proto::Relp, 66);
+    // the same elsewhere
+    serve_to(rt, net, &mut door, place, Proto::Relp, fault(24), 66);
+    serve_to(rt, net, &mut door, place, Proto::Relp, fault(25), 66);
     assert_silence(rt, staged);
-    let full = ": its Lumberjack connection ended with 67: FILE has no room";
-    serve_to(rt, net, &mut door, place, Proto::Lumberjack, 67);
-    assert_sender(rt, staged, full);
+    for (why, word) in WORDS {
+        staged.pass(MINUTE / 600);
+        let words = format!(in alloc; " at byte 1: {word}").expect(rt, "memory");
+        let talk = Talk::Fault { at: 1, why };
+        serve_to(rt, net, &mut door, place, Proto::Hec, talk, 66);
+        assert_sender(rt, staged, &words);
+    }
+    for (talk, status, words) in ENDINGS {
+        staged.pass(MINUTE / 600);
+        serve_to(rt, net, &mut door, place, Proto::Lumberjack, talk, status);
+        assert_sender(rt, staged, words);
+    }
     staged.pass(MINUTE);
-    serve_to(rt, net, &mut door, place, Proto::Relp, 66);
-    let words = ": its bytes break the protocol; 3 times since the last such line";
+    serve_to(rt, net, &mut door, place, Proto::Relp, fault(26), 66);
+    let words = " at byte 26: too long; 3 times since the last such line";
     assert_sender(rt, staged, words);
-    serve_to(rt, net, &mut door, place, Proto::Hec, 73);
-    let failed = ": its HEC connection ended with 73: a call on FILE failed";
-    assert_sender(rt, staged, failed);
 }
 
 // A sender's connection breaks by a reset, after a text of it was read or before one came.
@@ -373,7 +467,10 @@ fn resets_are_said(rt: &impl Abort, staged: &Staged<'_>, net: &mut StagedNet<'_,
         // closed with bytes unread, it resets the connection
         net.hang_up(near);
         assert!(rt; far.read(&mut [0u8; 16]).is_err());
-        assert!(rt; door.give_back(far, Proto::Relp, 0, 71).is_ok());
+        assert!(rt;
+            door.give_back(far, Proto::Relp, 0, Talk::ReadFault, 71)
+                .is_ok()
+        );
         if is_read {
             let words = ": its RELP connection ended with 71: it reset the connection";
             assert_sender(rt, staged, words);
@@ -393,13 +490,19 @@ fn waits_in_vain_are_said(
     let (near, mut far) = pair(rt, net, &mut door, place);
     assert!(rt; far.read(&mut [0u8; 8]).is_err());
     drop(near);
-    assert!(rt; door.give_back(far, Proto::Hec, 0, 71).is_ok());
+    assert!(rt;
+        door.give_back(far, Proto::Hec, 0, Talk::ReadFault, 71)
+            .is_ok()
+    );
     let words = ": its HEC connection ended with 71: it sent nothing for 1 seconds";
     assert_sender(rt, staged, words);
     let (near, mut far) = pair(rt, net, &mut door, place);
     assert!(rt; write_until_it_fails(&mut far));
     drop(near);
-    assert!(rt; door.give_back(far, Proto::Hec, 0, 72).is_ok());
+    assert!(rt;
+        door.give_back(far, Proto::Hec, 0, Talk::WriteFault, 72)
+            .is_ok()
+    );
     let words = ": its HEC connection ended with 72: it took nothing for 1 seconds";
     assert_sender(rt, staged, words);
 }
@@ -440,14 +543,79 @@ fn refusals_are_said_by_their_codes(
         // a second time within a minute, and the connection's end
         assert!(rt; far.write(text.as_bytes()) == Ok(text.len()));
         drop(near);
-        assert!(rt; door.give_back(far, Proto::Hec, 0, 66).is_ok());
+        assert!(rt; door.give_back(far, Proto::Hec, 0, BROKEN, 66).is_ok());
         assert_silence(rt, staged);
     }
     // what a peer writes so is no refusal of bridge
     let (mut near, mut far) = pair(rt, net, &mut door, place);
     pass(rt, &mut near, &mut far, "HTTP/1.1 401 No\r\n");
     net.hang_up(near);
-    assert!(rt; door.give_back(far, Proto::Hec, 0, 0).is_ok());
+    assert!(rt; door.give_back(far, Proto::Hec, 0, Talk::Ended, 0).is_ok());
+    assert_silence(rt, staged);
+}
+
+// A reply that closes the connection is said at its end, with what the end says.
+fn last_refusals_are_said_at_the_end(
+    rt: &impl Abort,
+    staged: &Staged<'_>,
+    net: &mut StagedNet<'_, '_>,
+    place: &str,
+) {
+    let mut door = bound(rt, staged, net, place);
+    let busy =
+        "HTTP/1.1 503 No\r\nConnection: close\r\n\r\n{\"text\":\"Server is busy\",\"code\":9}";
+    let denied = "HTTP/1.1 403 No\r\nConnection: close\r\n\r\n{\"code\":4}";
+    for (text, talk, status, words) in [
+        (
+            busy,
+            Talk::Full { need: 9, room: 8 },
+            67,
+            ": a request was refused with 503: FILE has no room; 9 bytes needed, 8 free",
+        ),
+        (
+            busy,
+            Talk::Busy { held: 1_000 },
+            67,
+            ": a request was refused with 503: the table of ack ids is full; it holds 1000",
+        ),
+        (
+            "HTTP/1.1 400 No\r\nConnection: close\r\n\r\n{\"code\":6}",
+            BROKEN,
+            66,
+            ": a request was refused with 400: its bytes break the protocol at byte 7: bad head",
+        ),
+        (
+            denied,
+            Talk::Ended,
+            0,
+            ": a request was refused with 403, code 4: its token isn't known",
+        ),
+    ] {
+        let (near, mut far) = pair(rt, net, &mut door, place);
+        assert!(rt; far.write(text.as_bytes()) == Ok(text.len()));
+        assert_silence(rt, staged);
+        drop(near);
+        assert!(rt; door.give_back(far, Proto::Hec, 0, talk, status).is_ok());
+        assert_sender(rt, staged, words);
+    }
+}
+
+// The number of each connection is said at its first bytes, where that is asked for.
+fn connections_are_numbered(
+    rt: &impl Abort,
+    staged: &Staged<'_>,
+    net: &mut StagedNet<'_, '_>,
+    place: &str,
+) {
+    let mut door = bound(rt, staged, net, place);
+    let (mut near, mut far) = pair(rt, net, &mut door, place);
+    assert_silence(rt, staged);
+    pass(rt, &mut near, &mut far, "1 open 0\n");
+    assert_sender(rt, staged, ": connection 5");
+    pass(rt, &mut near, &mut far, "2 close 0\n");
+    assert_silence(rt, staged);
+    net.hang_up(near);
+    assert!(rt; door.give_back(far, Proto::Relp, 5, Talk::Ended, 0).is_ok());
     assert_silence(rt, staged);
 }
 
@@ -466,7 +634,7 @@ fn a_quiet_net_says_nothing(
     let (mut near, mut far) = pair(rt, net, &mut door, place);
     pass(rt, &mut far, &mut near, "HTTP/1.1 401 No\r\n");
     net.hang_up(near);
-    assert!(rt; door.give_back(far, Proto::Hec, 0, 66).is_ok());
+    assert!(rt; door.give_back(far, Proto::Hec, 0, BROKEN, 66).is_ok());
     for _ in 0..4 {
         net.pause();
         net.report_held_up(place, &REFUSED);
@@ -479,7 +647,7 @@ fn a_quiet_net_says_nothing(
 fn senders_are_said(rt: &impl Abort, alloc: Global, host: &HostRuntime, staged: &Staged<'_>) {
     let reports = Reports::new();
     let mut net = TcpNet::with_waits(alloc, staged, &reports, waits());
-    endings_are_said_once_a_minute(rt, staged, &mut net, &free_place(rt, host));
+    endings_are_said_once_a_minute(rt, alloc, staged, &mut net, &free_place(rt, host));
     let reports = Reports::new();
     let mut net = TcpNet::with_waits(alloc, staged, &reports, waits());
     resets_are_said(rt, staged, &mut net, &free_place(rt, host));
@@ -489,6 +657,12 @@ fn senders_are_said(rt: &impl Abort, alloc: Global, host: &HostRuntime, staged: 
     let reports = Reports::new();
     let mut net = TcpNet::with_waits(alloc, staged, &reports, waits());
     refusals_are_said_by_their_codes(rt, staged, &mut net, &free_place(rt, host));
+    let reports = Reports::new();
+    let mut net = TcpNet::with_waits(alloc, staged, &reports, waits());
+    last_refusals_are_said_at_the_end(rt, staged, &mut net, &free_place(rt, host));
+    let reports = Reports::new().with_verbose(true);
+    let mut net = TcpNet::with_waits(alloc, staged, &reports, waits());
+    connections_are_numbered(rt, staged, &mut net, &free_place(rt, host));
 }
 
 // The receiver's side.
@@ -517,7 +691,7 @@ pub(crate) fn the_net_says_what_befalls_it(rt: &impl Abort, alloc: Global, host:
     a_monitor_is_said(rt, &staged, &mut net, &free_place(rt, host));
     senders_are_said(rt, alloc, host, &staged);
     receivers_are_said(rt, alloc, host, &staged);
-    let quiet = Reports::quiet();
+    let quiet = Reports::quiet().with_verbose(true);
     let mut net = TcpNet::with_waits(alloc, &staged, &quiet, waits());
     a_quiet_net_says_nothing(rt, &staged, &mut net, &free_place(rt, host));
 }

@@ -4,6 +4,7 @@ use crate::sockets::free_place;
 use crate::staged::Staged;
 use edge_io::{Door, EventCounts, HeldUp, Monitor, Net, Proto, Sink, SpoolNumbers};
 use edge_net::{Reports, TcpMonitor, TcpNet};
+use event_form::Talk;
 use std::alloc::Global;
 use std::io::{self, Write};
 use std::net::{Shutdown, TcpStream};
@@ -13,6 +14,8 @@ use std::time::Duration;
 type StagedMonitor<'a, 'h> = TcpMonitor<'a, Staged<'h>>;
 
 const SECOND: u64 = 1_000;
+
+const NO_ROOM: Talk = Talk::Full { need: 9, room: 8 };
 
 // A spool in which the entries from 990 on are pending, but for three of them.
 const NUMBERS: SpoolNumbers = SpoolNumbers {
@@ -113,7 +116,7 @@ fn fullness_is_said(rt: &impl Abort, alloc: Global, host: &HostRuntime, staged: 
     let _ = staged.take_lines(rt);
     let (near, far) = pair(rt, &mut net, &mut door, &senders);
     net.hang_up(near);
-    assert!(rt; door.give_back(far, Proto::Relp, 0, 67).is_ok());
+    assert!(rt; door.give_back(far, Proto::Relp, 0, NO_ROOM, 67).is_ok());
     let _ = staged.take_lines(rt);
     let line = "bridge: FILE has no room; nothing is acknowledged until it has";
     for (numbers, line) in [
