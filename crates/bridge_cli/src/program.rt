@@ -21,7 +21,9 @@ fn reports_of(options: RunOptions) -> Reports {
     } else {
         Reports::new()
     };
-    reports.of_version(version_day())
+    reports
+        .of_version(version_day())
+        .with_verbose(options.is_verbose)
 }
 
 // How long the net waits, as the options have it.
@@ -90,7 +92,7 @@ fn run_taken<R: Threads + Wait + Sync + Copy + Send + 'static>(
     options: RunOptions,
 ) -> Ending {
     let alloc = rt.alloc();
-    let Ok(errors) = Arc::new(alloc, StandardError::new(rt)) else {
+    let Ok(errors) = Arc::new(alloc, StandardError::new(rt, options.has_time)) else {
         print_note(rt, Note::NoMemory);
         return Ending::Noted(Note::NoMemory);
     };

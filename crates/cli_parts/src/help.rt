@@ -48,6 +48,8 @@ Options, after the command's name:
   --polls N             drain, serve: how often it is asked about an ack id, 1 to 1000 (60)
   --idle SECONDS        serve: how long a sender may be silent, 1 to 86400 (600)
   --quiet               any: standard error gets no line about the network
+  --verbose             any: standard error says which connection each sender has
+  --log-time            any: lines on standard error have the time before them
 
 Exit statuses; a line on standard error says more:
    0  all was done

@@ -20,6 +20,7 @@ mod seconds;
 mod severity;
 mod shown;
 mod skip_words;
+mod stamp;
 mod standard_error;
 mod starting;
 mod status;
@@ -44,9 +45,10 @@ pub use report::{
     print_note, print_rescue, print_unopened,
 };
 pub use rescue_words::{RescueWords, rescue_of};
-pub use run_options::{RunOptions, Taken, Untaken, WrongOption, take_options};
+pub use run_options::{Flag, RunOptions, Taken, Untaken, WrongOption, take_options};
 pub use shown::Shown;
 pub use skip_words::skip_of;
+pub use stamp::Stamp;
 pub use standard_error::{Host, StandardError};
 pub use starting::print_start;
 pub use status::{Ending, exit_code};

@@ -1,6 +1,7 @@
 //! A standard error for which nobody has to wait.
 use crate::backlog::{Backlog, Batch};
 use crate::severity::{is_journal, prefix_of};
+use crate::stamp::{Stamp, Stamped};
 use std::alloc::{AllocError, Global};
 use std::fmt::Display;
 use std::io;
@@ -27,6 +28,8 @@ pub struct StandardError {
     stderr: Stderr,
     // It is the journal's: how grave a line is stands before it.
     is_journal: bool,
+    // The clock by which a line has the time before it, where it is to have one.
+    clock: Option<HostRuntime>,
     has_thread: AtomicBool,
     backlog: Mutex<Backlog>,
     // How many lines wait or are being written.
@@ -37,12 +40,19 @@ pub struct StandardError {
 }
 
 impl StandardError {
-    /// Without a thread: each line is written by whoever says it, who waits until that is done.
-    pub fn new(rt: &HostRuntime) -> StandardError {
+    /// Without a thread: each line is written by whoever says it, who waits until that is done. A line has the time before it where
+    /// `has_time` says so, unless the journal has the lines, which notes the time itself.
+    pub fn new(rt: &HostRuntime, has_time: bool) -> StandardError {
+        let is_journal = is_journal(rt);
         StandardError {
             alloc: rt.alloc(),
             stderr: rt.stderr(),
-            is_journal: is_journal(rt),
+            is_journal,
+            clock: if has_time && !is_journal {
+                Some(*rt)
+            } else {
+                None
+            },
             has_thread: AtomicBool::new(false),
             backlog: Mutex::new(Backlog::new(rt.alloc())),
             unwritten: AtomicU64::new(0),
@@ -114,6 +124,30 @@ impl StandardError {
         eprintln!(self.stderr; "{prefix}{line}")
     }
 
+    // The time that stands before a line, where one does.
+    fn stamp(&self) -> Option<Stamp> {
+        let rt = self.clock?;
+        match rt.since_1970() {
+            Ok(since_1970) => Some(Stamp { since_1970 }),
+            Err(_) => None,
+        }
+    }
+
+    // Writes a line, or hands it to the thread.
+    fn put<D: Display + Drop>(&self, line: D) -> io::Result<()> {
+        if self.has_thread.load(Ordering::SeqCst) {
+            self.hand(line);
+            return Ok(());
+        }
+        if !self.is_journal {
+            return self.stderr.eprintln(line);
+        }
+        match format!(in self.alloc; "{line}") {
+            Ok(text) => self.write(text.as_str()),
+            Err(_) => self.stderr.eprintln(line),
+        }
+    }
+
     // Writes what was taken. An error is not reported.
     fn write_all(&self, batch: Batch) {
         for line in &batch.lines {
@@ -122,7 +156,12 @@ impl StandardError {
         let dropped = batch.dropped;
         if dropped > 0 {
             let prefix = if self.is_journal { "<4>" } else { "" };
-            let _ = eprintln!(self.stderr; "{prefix}bridge: {dropped} lines were dropped here");
+            let _ = match self.stamp() {
+                Some(stamp) => eprintln!(self.stderr;
+                    "{stamp} bridge: {dropped} lines were dropped here"
+                ),
+                None => eprintln!(self.stderr; "{prefix}bridge: {dropped} lines were dropped here"),
+            };
         }
         let written = batch.lines.len() as u64;
         let _ = self.unwritten.fetch_sub(written, Ordering::SeqCst);
@@ -155,16 +194,9 @@ impl Eprint for StandardError {
     }
 
     fn eprintln<D: Display + Drop>(&self, value: D) -> io::Result<()> {
-        if self.has_thread.load(Ordering::SeqCst) {
-            self.hand(value);
-            return Ok(());
-        }
-        if !self.is_journal {
-            return self.stderr.eprintln(value);
-        }
-        match format!(in self.alloc; "{value}") {
-            Ok(line) => self.write(line.as_str()),
-            Err(_) => self.stderr.eprintln(value),
+        match self.stamp() {
+            Some(stamp) => self.put(Stamped { stamp, line: value }),
+            None => self.put(value),
         }
     }
 }
