@@ -2,6 +2,7 @@
 import errno
 import fcntl
 import http.client
+import json
 import os
 import pty
 import re
@@ -401,17 +402,10 @@ def journal(check, program, library, folder):
         check(f"journal: {'the' if is_named else 'not the'} stream", holds, lines)
 
 
-def terminal(check, program, library, folder):
-    """To a terminal `list` writes control characters of events as escapes; elsewhere their bytes."""
-    path, text = f"{folder}/shown", "a\x1b[2Jb\x7fc\u0085d\u00a0e\tf\u009bg\u00c3"
-    format_under(program, library, folder, path, 2, 4096)
-    frame = text.encode()
-    sent = OPEN + b"2 syslog %d %s\n" % (len(frame), frame)
-    subprocess.run([program, path, "replay", "relp"], input=sent, capture_output=True, check=False)
-    done = subprocess.run([program, path, "list", "--as", "relp"], capture_output=True, check=False)
-    check("terminal: a pipe gets the bytes", done.stdout == frame + b"\n", done)
+def on_terminal(words):
+    """Runs a command whose standard output is a terminal, and returns what that was given."""
     near, far = pty.openpty()
-    with subprocess.Popen([program, path, "list", "--as", "relp"], stdout=far) as child:
+    with subprocess.Popen(words, stdout=far) as child:
         child.wait(20)
     os.close(far)
     shown = b""
@@ -421,5 +415,28 @@ def terminal(check, program, library, folder):
     except OSError:
         pass
     os.close(near)
-    due = "a\\u001b[2Jb\\u007fc\\u0085d\u00a0e\tf\\u009bg\u00c3\r\n"
-    check("terminal: it gets escapes", shown.decode().expandtabs() == due.expandtabs(), shown)
+    return shown.decode()
+
+
+def terminal(check, program, library, folder):
+    """To a terminal `list` writes control characters of events as escapes, in JSON as elsewhere; a pipe gets the bytes of each form."""
+    path, text = f"{folder}/shown", "a\x1b[2Jb\x7fc\u0085d\u00a0e\tf\u009bg\u00c3"
+    format_under(program, library, folder, path, 2, 4096)
+    frame = text.encode()
+    sent = OPEN + b"2 syslog %d %s\n" % (len(frame), frame)
+    subprocess.run([program, path, "replay", "relp"], input=sent, capture_output=True, check=False)
+    # (a JSON string has escapes of its own below U+0020, and none above)
+    string, shown_string = "a\\u001b[2Jb\x7fc\u0085d\u00a0e\\tf\u009bg\u00c3", "a\\u001b[2Jb\\u007fc\\u0085d\u00a0e\\tf\\u009bg\u00c3"
+    rows = {
+        "relp": (text, "a\\u001b[2Jb\\u007fc\\u0085d\u00a0e\tf\\u009bg\u00c3"),
+        "json": (f'{{"message":"{string}"}}', f'{{"message":"{shown_string}"}}'),
+        "hec": (f'{{"event":"{string}"}}', f'{{"event":"{shown_string}"}}'),
+    }
+    for form, (line, due) in rows.items():
+        words = [program, path, "list", "--as", form]
+        done = subprocess.run(words, capture_output=True, check=False)
+        check(f"terminal: a pipe gets the bytes, as {form}", done.stdout == line.encode() + b"\n", done)
+        shown = on_terminal(words)
+        check(f"terminal: it gets escapes, as {form}", shown.expandtabs() == f"{due}\r\n".expandtabs(), shown)
+        if form != "relp":
+            check(f"terminal: the same value, as {form}", list(json.loads(shown).values()) == [text], shown)
