@@ -6,7 +6,7 @@ use crate::rescue_words::{begins_rescue, rescue_of};
 use crate::run_options::WrongOption;
 use crate::skip_words::{begins_skip, skip_of};
 use crate::status::Ending;
-use crate::unopened::{missing_folder, open_text};
+use crate::unopened::missing_folder;
 use bridge_rescue::{Report, SlotFault, Why};
 use edge_file::OpenFault;
 use notes::{Note, note_text};
@@ -156,7 +156,7 @@ fn print_wrong_words(rt: &(impl AllocGlobal + Eprint), arguments: &Arguments) {
             "rescue takes nothing, or SLOTS, 1 to 1024, and SIZE, 4096 to 1073741824",
         );
     } else if let Ok(Some(fault)) = bridge_words::wrong_words(rt.alloc(), &arguments.words) {
-        print_line(rt, fault.text());
+        let _ = eprintln!(rt; "bridge: {fault}");
     }
     print_near_name(rt, arguments);
 }
@@ -187,7 +187,7 @@ pub fn print_beside_wrong_option(
             let _ = println!(rt; "{answer}");
         }
         None => {
-            print_line(rt, wrong.text());
+            let _ = eprintln!(rt; "bridge: {wrong}");
             print_near_name(rt, arguments);
         }
     }
@@ -201,8 +201,7 @@ pub fn print_unopened(rt: &(impl Files + Eprint), path: &str, fault: OpenFault) 
         let _ = eprintln!(rt; "bridge: {path}: no folder {folder}");
         return;
     }
-    let why = open_text(fault);
-    let _ = eprintln!(rt; "bridge: {path}: {why}");
+    let _ = eprintln!(rt; "bridge: {path}: {fault}");
 }
 
 /// Names the file of this path, where the note says of what stands in it that it is no spool.

@@ -8,6 +8,7 @@ ghost use Rattle.cli_parts.specs.Piece.{IsPiece, IsPlain, IsTaken, TakesNext};
 
 use crate::seconds::seconds;
 use std::alloc::{AllocError, Global};
+use thiserror::Error;
 
 /// The options of a run.
 #[derive(Clone, Copy, PartialEq, Eq)]
@@ -20,7 +21,8 @@ pub struct RunOptions {
 }
 
 /// Which option of a run is wrong, and why.
-#[derive(Clone, Copy, PartialEq, Eq)]
+#[derive(Clone, Copy, PartialEq, Eq, Debug, Drop, Error)]
+#[error("{}", self.text())]
 pub enum WrongOption {
     /// `--quiet` is given twice.
     QuietTwice,
@@ -53,11 +55,13 @@ impl WrongOption {
 }
 
 /// Why no options were taken out of words.
-#[derive(Clone, Copy, PartialEq, Eq)]
+#[derive(Clone, Copy, PartialEq, Eq, Debug, Drop, Error)]
 pub enum Untaken {
     /// One of them is wrong.
+    #[error(transparent)]
     Wrong(WrongOption),
     /// No memory was found.
+    #[error("no memory")]
     NoMemory,
 }
 
