@@ -1,11 +1,14 @@
 //! Faults beside the notes that the program ends with, and beside the replies and the lines that it writes.
 use body_faults::{AckFault, BodyFault};
 use disk_cell::{LoadFault, SetFault};
+use edge_disk::DiskFault;
 use edge_file::{OpenFault, PairFault};
+use edge_io::{AcceptFault, NetFault, ReadFault, Stopped, WriteFault};
 use event_form::Why;
 use hec_ids::IssueFault;
 use hec_session::{HecCode, HecSay, say_body};
 use http_edge::{HttpFault, HttpWhy};
+use json_span::JsonFault;
 use lumber_frame::{LumberFault, LumberWhy};
 use notes::{Note, note_text};
 use relp_frame::{RelpFault, RelpWhy};
@@ -326,4 +329,25 @@ pub fn faults_of_files(rt: &impl Abort, alloc: Global) {
     );
     says(rt, alloc, PairFault::OneFile, "both names are of one file");
     is_said(rt, alloc, OpenFault::NoMemory, Note::NoMemory);
+}
+
+pub fn faults_of_edges(rt: &impl Abort, alloc: Global) {
+    is_said(rt, alloc, DiskFault, Note::DiskFault);
+    is_said(rt, alloc, ReadFault, Note::ReadFault);
+    is_said(rt, alloc, WriteFault, Note::WriteFault);
+    is_said(rt, alloc, Stopped { sent: 37 }, Note::WriteFault);
+    is_said(rt, alloc, AcceptFault, Note::NetFault);
+    is_said(rt, alloc, NetFault::Fault, Note::NetFault);
+    is_said(rt, alloc, NetFault::NoMemory, Note::NoMemory);
+}
+
+pub fn faults_of_json(rt: &impl Abort, alloc: Global) {
+    says(rt, alloc, JsonFault::Cut, "JSON ends too early");
+    says(rt, alloc, JsonFault::NotJson { at: 41 }, "no JSON at 41");
+    says(
+        rt,
+        alloc,
+        JsonFault::TooDeep { at: 43 },
+        "JSON too deep at 43",
+    );
 }
