@@ -122,11 +122,11 @@ def shrunk(check, program, library, folder):
 
 def groups(check, program, library, folder):
     """Three frames of RELP that one read brings, with `--group`: four calls of FILE, then one answer for all. Without it four calls and
-    an answer for each. A read asks for 65,536 bytes, and without it for 8,192. Where one of the four calls fails, none of the three is
+    an answer for each. A read asks for 8,192 bytes as long as none is full. Where one of the four calls fails, none of the three is
     answered, and all or none of them stand in the spool, which the next connection stores them in again."""
     texts = [text_of("relp", number) for number in range(3)]
     four = ["write", "sync", "write", "sync"]
-    for words, times, piece in ((), 3, 8192), (("--group",), 1, 65536):
+    for words, times in ((), 3), (("--group",), 1):
         name = " ".join(("three frames of one read", *words))
         server, seen = start(program, library, folder, words=("--workers", "1", *words))
         link = RelpLink(server.ports["relp"])
@@ -138,7 +138,7 @@ def groups(check, program, library, folder):
         after = [call.kind for call in calls[came + 1 :] if call.kind != "recv"]
         check(f"{name}: the calls", after == [*four, "send"] * times, after)
         reads = {call.asked for call in calls[: came + 1] if call.kind == "recv"}
-        check(f"{name}: how much a read asks for", reads == {piece}, reads)
+        check(f"{name}: how much a read asks for", reads == {8192}, reads)
     for place, kind in enumerate(four):
         name = f"a run of frames whose {kind} {place // 2 + 1} fails"
         server, seen = start(program, library, folder, words=("--workers", "1", "--group"))
@@ -400,6 +400,33 @@ def journal(check, program, library, folder):
         due = [prefix * is_named + start for prefix, start in zip(("<6>", "<6>", "<4>"), starts)]
         holds = len(lines) == 3 and all(line.startswith(start) for line, start in zip(lines, due))
         check(f"journal: {'the' if is_named else 'not the'} stream", holds, lines)
+    # That FILE isn't well is an error, though its line speaks of when it will be.
+    server = serving.Server(program, folder)
+    (port,) = serving.free_ports(1)
+    read, write = os.pipe()
+    seen = os.fstat(write)
+    words = [program, server.spool, "serve", "--relp", f"127.0.0.1:{port}", "--workers", "1", "--talks", "1"]
+    environment = {**os.environ, "JOURNAL_STREAM": f"{seen.st_dev}:{seen.st_ino}"}
+    with subprocess.Popen(words, env=environment, stdout=subprocess.DEVNULL, stderr=write) as child:
+        os.close(write)
+        with serving.connect(port) as link:
+            # (it listens before it opens FILE, and answers after that)
+            link.sendall(OPEN)
+            link.recv(1)
+            os.rename(server.spool, f"{server.spool}.away")
+            link.sendall(b"2 syslog 1 a\n")
+            try:
+                while link.recv(4096):
+                    pass
+            except ConnectionResetError:
+                # (the server has ended)
+                pass
+        os.rename(f"{server.spool}.away", server.spool)
+        child.wait(20)
+    with os.fdopen(read, "rb") as stream:
+        lines = stream.read().decode().splitlines()
+    said = "bridge: FILE was removed or renamed; nothing is acknowledged until FILE is well again"
+    check("journal: a FILE that isn't well is an error", f"<3>{said}" in lines, lines)
 
 
 def on_terminal(words):

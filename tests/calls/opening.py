@@ -6,6 +6,7 @@ import os
 import shutil
 import stat
 import subprocess
+import time
 
 import calling
 import serving
@@ -225,7 +226,7 @@ def health_of(port):
 
 
 def gone(check, program, _library, folder):
-    """Once FILE is removed, renamed or another one stands in its place nothing more is acknowledged, `/health` is 503 and a line says why;
+    """A tenth of a second after FILE is removed, renamed or another one stands in its place nothing more is acknowledged, `/health` is 503 and a line says why;
     once it is back it is well again."""
 
     def replace(path):
@@ -245,6 +246,8 @@ def gone(check, program, _library, folder):
         link.store(text_of("relp", 1))
         check(f"a FILE to be {name}: it is well", health_of(port) == 200)
         leave(server.spool)
+        # (it is looked for a tenth of a second after the last look)
+        time.sleep(0.2)
         acknowledged = 0
         for number in (2, 3):
             try:

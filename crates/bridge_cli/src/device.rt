@@ -4,7 +4,7 @@ ghost use Rattle.notes.specs.declared.note.Note.TheVariants.{Usage, NoMemory};
 ghost use Rattle.bridge_words.specs.declared.need.Need.TheVariants.{Existing, Make};
 ghost use Rattle.bridge_words.specs.Words.{IsNeed, IsNoCommand, IsNoMove, IsSomeMove};
 ghost use Rattle.bridge_core.specs.Failed.{TellsReadFault, TellsWriteFault, TellsDial};
-ghost use Rattle.bridge_core.specs.Leave.{ForWords, MayAnswer, MayReplay, MayTake, WasRead, MayRelease, WasWritten, exchanges_as, HasExchangedAt, MayTear, MayBind, MayTell, MayDial, MayPrint};
+ghost use Rattle.bridge_core.specs.Leave.{ForWords, MayAnswer, MayReplay, MayTake, WasRead, MayRelease, WasWritten, exchanges_as, HasExchangedAt, MayTear, MayBind, MayTell, MayReport, MayDial, MayPrint};
 ghost use Rattle.bridge_cli.specs.Noted.{IsNoteOf, faults_at};
 ghost use Rattle.cli_files.specs.declared.files.How.{How};
 ghost use Rattle.cli_parts.specs.Ending.{note_in};
@@ -96,6 +96,8 @@ where
     requires binds { ForWords (map string_bytes words.now) (MayBind N.may_bind) }
     requires tells { (disk : F.D) → ForWords (map string_bytes words.now)
         (MayTell F.D.tells F.D.moment disk N.M.may_tell) }
+    requires reports { (disk : F.D) → ForWords (map string_bytes words.now)
+        (MayReport F.D.tells F.D.moment disk (HasExchangedAt N.L.same N.L.dialed N.L.given N.L.taken) N.may_report) }
     requires dials { ForWords (map string_bytes words.now) (MayDial N.may_dial) }
     requires replays { (disk : F.D) → ForTexts words.now
         (MayReplay F.D.tells F.D.moment disk (WasRead S.same S.given input.old)
@@ -157,6 +159,8 @@ where
     requires binds { ForWords (map string_bytes words.now) (MayBind N.may_bind) }
     requires tells { (disk : F.D) → ForWords (map string_bytes words.now)
         (MayTell F.D.tells F.D.moment disk N.M.may_tell) }
+    requires reports { (disk : F.D) → ForWords (map string_bytes words.now)
+        (MayReport F.D.tells F.D.moment disk (HasExchangedAt N.L.same N.L.dialed N.L.given N.L.taken) N.may_report) }
     requires dials { ForWords (map string_bytes words.now) (MayDial N.may_dial) }
     requires replays { (disk : F.D) → ForTexts words.now
         (MayReplay F.D.tells F.D.moment disk (WasRead S.same S.given input.old)

@@ -4,7 +4,7 @@ ghost use Rattle.bridge_words.specs.declared.need.Need.{Need};
 ghost use Rattle.bridge_words.specs.declared.need.Need.TheVariants.{Existing};
 ghost use Rattle.bridge_words.specs.Words.{IsNeed};
 ghost use Rattle.bridge_core.specs.Failed.{AsksServe};
-ghost use Rattle.bridge_core.specs.Leave.{ForWords, MayAnswer, MayReplay, MayTake, WasRead, MayReleaseOn, WasWritten, exchanges_as, HasExchangedAt, MayTear, MayBind, MayTell, MayDial, MayPrint};
+ghost use Rattle.bridge_core.specs.Leave.{ForWords, MayAnswer, MayReplay, MayTake, WasRead, MayReleaseOn, WasWritten, exchanges_as, HasExchangedAt, MayTear, MayBind, MayTell, MayReport, MayDial, MayPrint};
 ghost use Rattle.bridge_cli.specs.Noted.{IsNoteOf, faults_at};
 ghost use Rattle.bridge_cli.specs.Texts.{ForTexts};
 ghost use Rattle.bridge_cli.specs.Watched.{KeepsWatched};
@@ -42,6 +42,8 @@ where
     requires answers { ForWords (map string_bytes words.now) (MayAnswer D.tells D.moment disk N.permits) }
     requires binds { ForWords (map string_bytes words.now) (MayBind N.may_bind) }
     requires tells { ForWords (map string_bytes words.now) (MayTell D.tells D.moment disk N.M.may_tell) }
+    requires reports { ForWords (map string_bytes words.now)
+        (MayReport D.tells D.moment disk (HasExchangedAt N.L.same N.L.dialed N.L.given N.L.taken) N.may_report) }
     requires dials { ForWords (map string_bytes words.now) (MayDial N.may_dial) }
     requires replays { ForWords (map string_bytes words.now)
         (MayReplay D.tells D.moment disk (WasRead S.same S.given input.old) (MayTake K.same K.taken K.permits output.old)) }
@@ -143,6 +145,8 @@ where
     requires answers { ForWords (map string_bytes words.now) (MayAnswer D.tells D.moment disk N.permits) }
     requires binds { ForWords (map string_bytes words.now) (MayBind N.may_bind) }
     requires tells { ForWords (map string_bytes words.now) (MayTell D.tells D.moment disk N.M.may_tell) }
+    requires reports { ForWords (map string_bytes words.now)
+        (MayReport D.tells D.moment disk (HasExchangedAt N.L.same N.L.dialed N.L.given N.L.taken) N.may_report) }
     requires dials { ForWords (map string_bytes words.now) (MayDial N.may_dial) }
     requires replays { ForWords (map string_bytes words.now)
         (MayReplay D.tells D.moment disk (WasRead S.same S.given input.old) (MayTake K.same K.taken K.permits output.old)) }

@@ -1,24 +1,33 @@
 //! The program over its streams.
 use crate::device::run_words;
+use bridge_parts::net_note;
+use bridge_words::Command;
 use cli_files::{SystemFiles, run_rescue, run_skip};
 use cli_parts::{
     Arguments, Ending, Host, NoArguments, RunOptions, Shown, StandardError, Taken, Told, Untaken,
-    confirm, hold_streams, keep_freed, print_beside_usage, print_beside_wrong_option, print_ending,
-    print_line, print_note, print_start, rescue_of, skip_of, take_options, with_tokens,
+    answer, confirm, hold_streams, keep_freed, print_beside_usage, print_beside_wrong_option,
+    print_ending, print_line, print_note, print_start, rescue_of, skip_of, take_options,
+    version_day, with_bytes, with_tokens,
 };
 use edge_io::FileIo;
-use edge_net::{Reports, TcpNet, Waits};
+use edge_net::{Manager, Reports, TcpNet, Waits};
 use notes::Note;
+use std::fs::OpenOptions;
 use std::io::{self, IsTerminal};
 use std::sync::{Arc, Wait};
 use std::thread::Threads;
 
-// What is said of the net, as the options have it.
+// What is said of the net, and how much memory its connections may take, as the options have it.
 fn reports_of(options: RunOptions) -> Reports {
-    if options.is_quiet {
+    let reports = if options.is_quiet {
         Reports::quiet()
     } else {
         Reports::new()
+    };
+    let reports = reports.of_version(version_day());
+    match options.memory {
+        Some(bytes) => reports.with_memory(bytes),
+        None => reports,
     }
 }
 
@@ -38,6 +47,47 @@ fn asks_for(arguments: &Arguments, command: &str) -> bool {
     }
 }
 
+// Whether FILE opens at this moment, for this program alone. It is only locked, and closed again.
+fn opens(rt: &HostRuntime, file: &str) -> bool {
+    let mut options = OpenOptions::new();
+    options.read(true).write(true);
+    match options.open(rt, file) {
+        Ok(file) => file.try_lock().is_ok(),
+        Err(_) => false,
+    }
+}
+
+// Listens at each place at which a server is wanted, before FILE is opened and a run of it is spent. Where FILE doesn't open, as one that
+// is in use, that comes first, and its opening says why. The error is how the program ends where a place can't be listened at, of which
+// standard error has said why.
+fn listen_first(
+    rt: &HostRuntime,
+    arguments: &Arguments,
+    net: &mut TcpNet<'_, Host<'_>>,
+) -> Result<(), Ending> {
+    let server = match Command::of(rt.alloc(), &arguments.words) {
+        Ok(Some(Command::Serve { server })) => server,
+        Ok(_) => return Ok(()),
+        Err(_) => return Err(Ending::Noted(Note::NoMemory)),
+    };
+    if !opens(rt, &arguments.file) {
+        return Ok(());
+    }
+    for place in [
+        &server.status,
+        &server.relp,
+        &server.lumberjack,
+        &server.hec,
+    ] {
+        if let Some(place) = place
+            && let Err(fault) = net.listen(place.as_str())
+        {
+            return Err(Ending::Noted(net_note(fault)));
+        }
+    }
+    Ok(())
+}
+
 // Does what the arguments say, over standard input, standard output and the sockets of the system; but a `format` that its user takes back
 // does nothing.
 fn run_arguments<R: Threads + Wait + Sync>(
@@ -47,8 +97,8 @@ fn run_arguments<R: Threads + Wait + Sync>(
     options: RunOptions,
     errors: &StandardError,
 ) -> Ending {
-    if let Err(note) = confirm(rt, arguments) {
-        return Ending::Noted(note);
+    if let Err(ending) = confirm(rt, arguments) {
+        return ending;
     }
     let mut input = FileIo::of(rt.reader());
     let is_terminal = asks_for(arguments, "list") && rt.stdout().is_terminal();
@@ -63,10 +113,14 @@ fn run_arguments<R: Threads + Wait + Sync>(
     let reports = reports_of(options);
     let host = Host { rt, errors };
     let told = Told {
-        failing: reports.disk(),
+        file: reports.file(),
         errors,
     };
-    let mut net = TcpNet::with_waits(rt.alloc(), &host, &reports, waits_of(options));
+    let net = TcpNet::with_waits(rt.alloc(), &host, &reports, waits_of(options));
+    let mut net = net.telling(Manager::named(rt));
+    if let Err(ending) = listen_first(rt, arguments, &mut net) {
+        return ending;
+    }
     run_words(
         rt,
         threads,
@@ -111,6 +165,18 @@ fn run_taken<R: Threads + Wait + Sync + Copy + Send + 'static>(
     ending
 }
 
+// The words with what they stand for in the places of SIZE with a unit, and of the files that hold tokens. The error is the note with which
+// the run ends; standard error has said it.
+fn with_values(rt: &HostRuntime, words: Vec<String>) -> Result<Vec<String>, Note> {
+    match with_bytes(rt.alloc(), words) {
+        Ok(words) => with_tokens(rt, words),
+        Err(_) => {
+            print_note(rt, Note::NoMemory);
+            Err(Note::NoMemory)
+        }
+    }
+}
+
 // The same where the options of the run stand among the words, which are taken out of them.
 fn run_all<R: Threads + Wait + Sync + Copy + Send + 'static>(
     rt: &HostRuntime,
@@ -121,7 +187,7 @@ fn run_all<R: Threads + Wait + Sync + Copy + Send + 'static>(
     let Arguments { file, words } = arguments;
     match taken {
         Ok(Taken { words, options }) => {
-            let words = match with_tokens(rt, words) {
+            let words = match with_values(rt, words) {
                 Ok(words) => words,
                 Err(note) => return Ending::Noted(note),
             };
@@ -142,8 +208,8 @@ fn run_all<R: Threads + Wait + Sync + Copy + Send + 'static>(
 
 /// Runs the program, in threads of `threads` where its command takes some: what it was called with is FILE and then the words, among which
 /// stand the options of the run, and its streams are standard input and output. One that is closed is taken as empty, or as one to which
-/// a write fails. Where it doesn't end well, standard error gets the note's line. After the usage line it gets others that say what is
-/// wrong with the words; but where these ask for help or for the version, standard output gets that.
+/// a write fails. Where it doesn't end well, standard error gets the note's line, and after the usage line others that say what is wrong
+/// with the words. Where help or the version is asked for, standard output gets that, and no command is read.
 pub fn run<R: Threads + Wait + Sync + Copy + Send + 'static>(
     rt: &HostRuntime,
     threads: &R,
@@ -151,7 +217,10 @@ pub fn run<R: Threads + Wait + Sync + Copy + Send + 'static>(
     let _held = hold_streams(rt);
     keep_freed(rt.alloc());
     match Arguments::read(rt) {
-        Ok(arguments) => run_all(rt, threads, arguments),
+        Ok(arguments) => match answer(rt, &arguments) {
+            Some(ending) => ending,
+            None => run_all(rt, threads, arguments),
+        },
         Err(NoArguments::NoText) => {
             print_note(rt, Note::Usage);
             print_line(rt, "a word is no UTF-8");

@@ -2,6 +2,7 @@
 use Rattle.std.proofs.Common.{◌≡◌, inl, inr, ℕ, List, ◌∙◌, ap}
 use Rattle.std.specs.Prelude.{Some, None}
 use Rattle.edge_disk.specs.Disk.{Moment}
+use Rattle.edge_io.specs.declared.held_up.HeldUp.{HeldUp}
 use Rattle.edge_io.specs.declared.monitor.SpoolNumbers.{SpoolNumbers}
 use Rattle.bridge_words.specs.declared.command.Command.{Command}
 use Rattle.bridge_words.specs.declared.command.Command.TheVariants.{Format, List as ListCommand, Replay, Drain, Load, Serve}
@@ -10,7 +11,7 @@ use Rattle.bridge_words.specs.declared.need.Need.TheVariants.{Existing}
 use Rattle.bridge_words.specs.Words.{IsNeed, need_for}
 use Rattle.bridge_words.proofs.Once.{one_command, move_is_no_command}
 use Rattle.bridge_serve.proofs.Releasing.{any_some, if_some}
-use Rattle.bridge_core.specs.Leave.{Exchanges, ForWords, MayAnswer, MayRelease, MayReplay, MayTear, MayTell}
+use Rattle.bridge_core.specs.Leave.{Exchanges, ForWords, MayAnswer, MayRelease, MayReplay, MayReport, MayTear, MayTell}
 
 -- what is durable on a disk within another is so on that
 pub answers_within : {D W : Type 0} (tells : Type 0) (moment : D → Moment) (within : W → D) (given : W) (Permits : List ℕ → ℕ → ℕ → List ℕ → List ℕ → Type 0)
@@ -54,6 +55,18 @@ tells_within tells moment within given May (Replay proto token ack_token) may = 
 tells_within tells moment within given May (Drain receiver place) may = tt
 tells_within tells moment within given May (Load proto number count) may = tt
 tells_within tells moment within given May (Serve server) may = λ disk numbers are. may (within disk) numbers are
+
+-- what may be reported by calls on it
+pub reports_within : {D W : Type 0} (tells : Type 0) (moment : D → Moment) (within : W → D) (given : W) (At : List ℕ → List ℕ → List ℕ → Type 0)
+    (Report : List ℕ → HeldUp → Type 0) (command : Command) → MayReport tells moment (within given) At Report command
+    → MayReport tells (λ (w : W). moment (within w)) given At Report command
+reports_within tells moment within given At Report (Format slots size) may = tt
+reports_within tells moment within given At Report (ListCommand form) may = tt
+reports_within tells moment within given At Report (Replay proto token ack_token) may = tt
+reports_within tells moment within given At Report (Drain receiver place) may = tt
+reports_within tells moment within given At Report (Load proto number count) may = tt
+reports_within tells moment within given At Report (Serve server) may =
+    if_some server.forward _ _ (λ relay may disk held_up is. may (within disk) held_up is) may
 
 -- what may be written to a disk may be so to one round it
 pub tears_within : {D W : Type 0} (tells : Type 0) (moment : D → Moment) (within : W → D) (Tear : D → ℕ → ℕ → Type 0) (Release : ℕ → Type 0) (command : Command)

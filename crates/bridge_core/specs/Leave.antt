@@ -1,9 +1,10 @@
 -- What a command may write to those who send to it, what it may make known as confirmed, what it may write to the disk, where it may bind
--- doors, what it may tell of the spool, and where it may dial.
+-- doors, what it may tell of the spool and of what holds the forwarding up, and where it may dial.
 use Rattle.std.specs.Prelude.{ℕ, List, Some, None}
 use Rattle.edge_disk.specs.declared.disk.Disk.{Ghosts as Disks}
 use Rattle.edge_disk.specs.Disk.{Moment}
 use Rattle.edge_disk.specs.Leave.{LetsAll}
+use Rattle.edge_io.specs.declared.held_up.HeldUp.{HeldUp}
 use Rattle.edge_io.specs.declared.monitor.SpoolNumbers.{SpoolNumbers}
 use Rattle.spool_answers.specs.Leave.{LetsKeep}
 use Rattle.bridge_words.specs.declared.command.Command.{Command}
@@ -19,6 +20,7 @@ pub use Rattle.commands.specs.Released.{WasWritten, WereStreamed}
 use Rattle.bridge_serve.specs.Answered as server
 use Rattle.bridge_serve.specs.Numbers as numbers
 use Rattle.bridge_serve.specs.Released as forwarder
+use Rattle.bridge_serve.specs.Reported as held
 
 -- What was exchanged with peers: which bytes were read from the input, which text was written to the output, and which of both over a link
 -- that was dialed at a place.
@@ -84,6 +86,13 @@ MayBind May command = Unit {0}
 abbrev pub MayTell : {D : Type 0} → Type 0 → (D → Moment) → D → (SpoolNumbers → Type 0) → Command → Type 0
 MayTell tells moment given May (Serve words) = numbers.MayTell tells moment given May
 MayTell tells moment given May command = Unit {0}
+
+-- `serve` may report what holds up the forwarding to the place of its words: the entry that the session just held had offered alone and that
+-- was not acknowledged then, and the code with which the peer refused it, where it did. `given` is the disk as it was before. No other
+-- command reports any.
+abbrev pub MayReport : {D : Type 0} → Type 0 → (D → Moment) → D → (List ℕ → List ℕ → List ℕ → Type 0) → (List ℕ → HeldUp → Type 0) → Command → Type 0
+MayReport tells moment given ExchangedAt Report (Serve words) = held.MayReport tells moment given words ExchangedAt Report
+MayReport tells moment given ExchangedAt Report command = Unit {0}
 
 -- `drain` and `serve` may dial the place that their words name, and no other command any.
 abbrev pub MayDial : (List ℕ → Type 0) → Command → Type 0

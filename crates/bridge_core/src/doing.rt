@@ -3,7 +3,7 @@ ghost use Rattle.std.specs.Prelude.{◌≡◌, ℕ, List};
 ghost use Rattle.notes.specs.Notes.{status_of};
 ghost use Rattle.bridge_core.specs.Asked.{IsAsked};
 ghost use Rattle.bridge_core.specs.Done.{Does, IsOther};
-ghost use Rattle.bridge_core.specs.Leave.{MayAnswer, MayReplay, MayTake, WasRead, MayReleaseOn, WasWritten, exchanges_as, HasExchangedAt, MayTear, MayBind, MayTell, MayDial, MayPrint};
+ghost use Rattle.bridge_core.specs.Leave.{MayAnswer, MayReplay, MayTake, WasRead, MayReleaseOn, WasWritten, exchanges_as, HasExchangedAt, MayTear, MayBind, MayTell, MayReport, MayDial, MayPrint};
 ghost use Rattle.bridge_core.specs.Told.{ran};
 
 use crate::ended::Ended;
@@ -130,6 +130,7 @@ where
     requires answers { MayAnswer D.tells D.moment disk N.permits command }
     requires binds { MayBind N.may_bind command }
     requires tells { MayTell D.tells D.moment disk N.M.may_tell command }
+    requires reports { MayReport D.tells D.moment disk (HasExchangedAt N.L.same N.L.dialed N.L.given N.L.taken) N.may_report command }
     requires dials { MayDial N.may_dial command }
     requires replays { MayReplay D.tells D.moment disk (WasRead S.same S.given input.old) (MayTake K.same K.taken K.permits output.old)
         command }

@@ -3,7 +3,7 @@ ghost use Rattle.std.specs.Prelude.{◌≡◌, ℕ, List};
 ghost use Rattle.notes.specs.Notes.{status_of};
 ghost use Rattle.bridge_core.specs.RunOf.{IsRunOf};
 ghost use Rattle.bridge_core.specs.Headline.{KeepsAcknowledged};
-ghost use Rattle.bridge_core.specs.Leave.{ForWords, MayAnswer, MayReplay, MayTake, WasRead, MayReleaseOn, WasWritten, exchanges_as, HasExchangedAt, MayTear, MayBind, MayTell, MayDial, MayPrint};
+ghost use Rattle.bridge_core.specs.Leave.{ForWords, MayAnswer, MayReplay, MayTake, WasRead, MayReleaseOn, WasWritten, exchanges_as, HasExchangedAt, MayTear, MayBind, MayTell, MayReport, MayDial, MayPrint};
 ghost use Rattle.bridge_core.specs.Told.{ran, texts};
 
 use crate::asked::{Unasked, asked_of};
@@ -55,6 +55,9 @@ use std::thread::Threads;
 /// calls that led to then, but for how many events were stored by each protocol, of which no clause says anything. Nor does one say that
 /// they were read after the question.
 ///
+/// And with what is reported to hold the forwarding up: by `reports` it is the entry that the session just held had offered alone, which
+/// the peer did not acknowledge, and the code with which the peer refused it, where it did. That it is reported no clause says.
+///
 /// Of all words but those of `serve` [`bridge_once`](crate::bridge_once) does the same, and is proved to return.
 ///
 /// The clause `run` has all the rest, by command. That each connection contributes exactly its protocol's events up to the first fault,
@@ -91,6 +94,10 @@ where
 
     // Those who ask for numbers may be told the spool's.
     requires tells { ForWords (texts words.now) (MayTell D.tells D.moment disk N.M.may_tell) }
+
+    // The entry that a session has just offered alone, and that was not acknowledged, may be reported to hold the forwarding up.
+    requires reports { ForWords (texts words.now)
+        (MayReport D.tells D.moment disk (HasExchangedAt N.L.same N.L.dialed N.L.given N.L.taken) N.may_report) }
 
     // The places that the words name may be bound and dialed, and any text may be printed.
     requires binds { ForWords (texts words.now) (MayBind N.may_bind) }

@@ -17,7 +17,7 @@ use Rattle.desk_access.specs.Legal.{IsNext, May, Met}
 use Rattle.desk_access.proofs.Moves.{calls_then, count_then}
 use Rattle.desk_access.proofs.Nexts.{all_left, all_right, next_first, next_more, stored_new, unused_new}
 use Rattle.desk_access.proofs.Taking.{may_next, took_of_conn, took_surely}
-use Rattle.spool_turns.specs.Own.{own_of-snoc}
+use Rattle.desk_seats.specs.Own.{own_of-snoc}
 use Rattle.spool_turns.specs.Replays.{MayMake}
 
 -- ---- a journal of one caller

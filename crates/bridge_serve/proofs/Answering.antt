@@ -16,8 +16,9 @@ use Rattle.desk_access.specs.Journal.{own_then}
 use Rattle.conn_serve.specs.declared.rules.Rules.{Rules}
 use Rattle.conn_serve.specs.Says.{HasCarried}
 use Rattle.conn_serve.specs.Serves.{CarriedBy}
-use Rattle.spool_turns.specs.Passes.{Beginning, Known, begun}
-use Rattle.spool_turns.specs.Ran.{Ran}
+use Rattle.desk_seats.specs.Passes.{Known}
+use Rattle.spool_turns.specs.Passes.{Beginning, begun}
+use Rattle.desk_seats.specs.Ran.{Ran}
 use Rattle.spool_turns.specs.Replays.{IsReal}
 use Rattle.serve_workers.specs.Answering.{MayAnswer as WorkerMay}
 use Rattle.serve_workers.specs.Served.{Served}

@@ -16,7 +16,7 @@ use Rattle.spool_desk.proofs.Leading.{standing_known}
 use Rattle.spool_turns.specs.declared.level.Level.{Level}
 use Rattle.spool_turns.specs.Levels.{level_in, HasLevel}
 use Rattle.spool_turns.specs.Passes.{Beginning, begun}
-use Rattle.serve_run.specs.Telling.{numbers_of, MayTell as MayTellLevels}
+use Rattle.serve_desk.specs.Telling.{numbers_of, MayTell as MayTellLevels}
 use Rattle.bridge_serve.specs.Numbers.{numbers_in, AreNumbers, MayTell}
 use Rattle.bridge_serve.specs.Opened.{IsOpenedDesk, opened_at, IsOpenedFrom}
 use Rattle.bridge_serve.proofs.Opening.{opened_desk, any_moment}

@@ -16,7 +16,7 @@ use Rattle.conn_serve.specs.Endings.{CountsFaults}
 use Rattle.conn_serve.proofs.Faults.{counts_none}
 use Rattle.forward_core.specs.declared.sent.Sent.{Sent}
 use Rattle.forward_core.specs.declared.sent.Sent.TheVariants as Ending
-use Rattle.spool_turns.specs.Passes.{Known}
+use Rattle.desk_seats.specs.Passes.{Known}
 use Rattle.serve_workers.specs.declared.worker.WorkerEnd.{WorkerEnd}
 use Rattle.serve_workers.specs.declared.worker.WorkerEnd.TheVariants as worker
 use Rattle.serve_workers.specs.declared.worker.WorkerReport.{WorkerReport}

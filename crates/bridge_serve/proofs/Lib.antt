@@ -9,3 +9,4 @@ pub mod Ran
 pub mod Answering
 pub mod Releasing
 pub mod Asked
+pub mod Reporting

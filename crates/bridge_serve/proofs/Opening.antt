@@ -21,9 +21,10 @@ use Rattle.spool_turns.specs.Passes.{begun}
 use Rattle.spool_turns.specs.Replays.{BeganAt}
 use Rattle.edge_io.specs.Door.{DoorState}
 use Rattle.edge_io.specs.Net.{NetState}
-use Rattle.serve_run.specs.declared.running.Served.{Served}
-use Rattle.serve_run.specs.Running.{Given, Left, HasServed, HasNotServed, left_as, seating_as}
-use Rattle.serve_run.specs.Served.{IsServed}
+use Rattle.serve_desk.specs.declared.serving.Served.{Served}
+use Rattle.serve_run.specs.Running.{Given, Left, left_as}
+use Rattle.serve_desk.specs.Serving.{HasServed, HasNotServed, seating_as}
+use Rattle.serve_desk.specs.Served.{IsServed}
 use Rattle.bridge_parts.specs.Run.{DiskRun, disk_run}
 use Rattle.bridge_parts.specs.Opened.{desk_in}
 use Rattle.bridge_serve.specs.Opened.{IsOpenedDesk, opened_at, IsOpenedFrom, IsOpenedOnly, desk_over}

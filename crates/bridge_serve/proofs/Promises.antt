@@ -18,13 +18,14 @@ use Rattle.conn_serve.specs.declared.rules.Rules.{Rules}
 use Rattle.forward_core.specs.Protocols.{settings_as}
 use Rattle.forward_core.specs.declared.sent.Sent.{Sent}
 use Rattle.forward_core.specs.declared.sent.Sent.TheVariants as Ending
-use Rattle.spool_turns.specs.Passes.{Known, Stands}
+use Rattle.desk_seats.specs.Passes.{Known, Stands}
 use Rattle.serve_workers.proofs.Placing.{new_last}
 use Rattle.serve_forwarder.specs.declared.destination.Destination.{Destination}
 use Rattle.serve_forwarder.specs.declared.looking.Outcome.{Outcome}
 use Rattle.serve_forwarder.specs.declared.looking.Outcome.TheVariants as outcome
 use Rattle.serve_forwarder.specs.Looks.{Forwarder, Look, sessions_of, calls_of, forwarder_at}
-use Rattle.serve_run.specs.Running.{Forwarded, Given, HasServed, Left, Seating}
+use Rattle.serve_run.specs.Running.{Forwarded, Given, Left}
+use Rattle.serve_desk.specs.Serving.{HasServed, Seating}
 use Rattle.serve_laws.specs.Parts.{Part, WorkerDoor, worker_door, IsPart, EachPart}
 use Rattle.serve_laws.specs.Runs.{ServerRun}
 use Rattle.serve_laws.specs.Leaves.{IsDone}

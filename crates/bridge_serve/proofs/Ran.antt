@@ -17,11 +17,13 @@ use Rattle.desk_access.specs.declared.division.Division.{Division}
 use Rattle.desk_access.specs.Division.{callers_of, each_of}
 use Rattle.desk_access.specs.Call.{failures_of}
 use Rattle.desk_access.specs.Desk.{DeskState}
-use Rattle.spool_turns.specs.Passes.{Stands, begun}
+use Rattle.desk_seats.specs.Passes.{Stands}
+use Rattle.spool_turns.specs.Passes.{begun}
 use Rattle.serve_workers.specs.Crews.{roster_as, returned_as}
 use Rattle.serve_forwarder.specs.declared.destination.Destination.{Destination}
 use Rattle.serve_forwarder.specs.Looks.{Forwarder, forwarder_at}
-use Rattle.serve_run.specs.Running.{Given, Left, given_as, seating_as}
+use Rattle.serve_run.specs.Running.{Given, Left, given_as}
+use Rattle.serve_desk.specs.Serving.{seating_as}
 use Rattle.notes.specs.declared.note.Note.{Note}
 use Rattle.bridge_words.specs.Lines.{serve_line}
 use Rattle.bridge_parts.specs.Opened.{desk_in}

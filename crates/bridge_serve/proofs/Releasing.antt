@@ -11,8 +11,9 @@ use Rattle.desk_access.specs.Desk.{DeskState, Stood}
 use Rattle.desk_access.specs.Journal.{own_then}
 use Rattle.forward_core.specs.Forwarded.{until_by}
 use Rattle.forward_core.specs.declared.outward.Outward.{Outward}
-use Rattle.spool_turns.specs.Passes.{Beginning, Known}
-use Rattle.spool_turns.specs.Ran.{Ran}
+use Rattle.desk_seats.specs.Passes.{Known}
+use Rattle.spool_turns.specs.Passes.{Beginning}
+use Rattle.desk_seats.specs.Ran.{Ran}
 use Rattle.spool_turns.specs.Replays.{IsReal}
 use Rattle.serve_forwarder.specs.Released.{HasAsked, MayRelease as ForwarderMay}
 use Rattle.bridge_parts.specs.Receivers.{outward_of}

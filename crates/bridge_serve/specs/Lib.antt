@@ -6,3 +6,4 @@ pub mod Opened
 pub mod Promised
 pub mod Released
 pub mod Served
+pub mod Reported

@@ -25,7 +25,8 @@ use Rattle.serve_forwarder.specs.declared.destination.Destination.{Destination}
 use Rattle.serve_forwarder.specs.declared.looking.Outcome.{Outcome}
 use Rattle.serve_forwarder.specs.Looks.{Look, sessions_of, calls_of as calls_of_looks, forwarder_at, outcome_of}
 use Rattle.serve_forwarder.specs.Sessions.{Session, TellsSessions}
-use Rattle.serve_run.specs.Running.{Forwarded, Given, HasServed, Left, Seating}
+use Rattle.serve_run.specs.Running.{Forwarded, Given, Left}
+use Rattle.serve_desk.specs.Serving.{HasServed, Seating}
 use Rattle.serve_laws.specs.Parts.{Part, WorkerDoor, links_of, AreParts, EachPart}
 use Rattle.serve_laws.specs.Faults.{CountsEnded}
 use Rattle.serve_laws.specs.Durable.{IsLinkDurable, IsTalkDurable}

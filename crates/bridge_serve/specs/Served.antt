@@ -24,8 +24,9 @@ use Rattle.serve_workers.specs.declared.crew.Post.{Post}
 use Rattle.serve_workers.specs.declared.worker.WorkerReport.{WorkerReport}
 use Rattle.serve_forwarder.specs.declared.destination.Destination.{Destination}
 use Rattle.serve_forwarder.specs.declared.looking.Outcome.{Outcome}
-use Rattle.serve_run.specs.declared.running.Served.{Served}
-use Rattle.serve_run.specs.Running.{Given, Left, HasServed, given_as, given_by, left_as, seating_as}
+use Rattle.serve_desk.specs.declared.serving.Served.{Served}
+use Rattle.serve_run.specs.Running.{Given, Left, given_as, given_by, left_as}
+use Rattle.serve_desk.specs.Serving.{HasServed, seating_as}
 use Rattle.bridge_words.specs.declared.command.Server.{Server}
 use Rattle.notes.specs.declared.note.Note.{Note}
 use Rattle.notes.specs.declared.note.Note.TheVariants.{NoMemory, NetFault}

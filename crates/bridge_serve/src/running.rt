@@ -9,21 +9,24 @@ ghost use Rattle.spool_turns.specs.Replays.{desk_at, IsReal};
 ghost use Rattle.serve_workers.specs.Answering.{MayAnswer};
 ghost use Rattle.desk_access.specs.Division.{callers_of, each_of};
 ghost use Rattle.serve_forwarder.specs.Released.{MayRelease};
-ghost use Rattle.serve_run.specs.Running.{HasNotServed, given_by, seating_as};
-ghost use Rattle.serve_run.specs.Served.{IsServed};
-ghost use Rattle.serve_run.specs.Telling.{MayTell as MayTellLevels};
+ghost use Rattle.serve_forwarder.specs.Reported.{MayReport};
+ghost use Rattle.serve_run.specs.Running.{given_by};
+ghost use Rattle.serve_desk.specs.Serving.{HasNotServed, seating_as};
+ghost use Rattle.serve_desk.specs.Served.{IsServed};
+ghost use Rattle.serve_desk.specs.Telling.{MayTell as MayTellLevels};
 ghost use Rattle.bridge_serve.specs.Answered.{WorkerMayAnswer, first_link};
 ghost use Rattle.bridge_serve.specs.Numbers.{MayTell};
 ghost use Rattle.bridge_serve.specs.Opened.{IsOpenedFrom, IsOpenedOnly};
 ghost use Rattle.bridge_serve.specs.Released.{ForwarderMayRelease};
+ghost use Rattle.bridge_serve.specs.Reported.{ForwarderMayReport};
 ghost use Rattle.bridge_serve.specs.Served.{RanOver, setup_as};
 
 use desk_access::Division;
 use edge_disk::Disk;
 use edge_io::{Door, Net};
 use hec_ids::Ids;
+use serve_desk::{Served, Unserved};
 use serve_forwarder::Destination;
-use serve_run::{Served, Unserved};
 use serve_workers::Post;
 use spool_desk::Desk;
 use spool_log::Spool;
@@ -73,6 +76,8 @@ where
     requires named { IfSome destination (λ d. N.may_dial d.now.place) }
     requires earned { IfSome destination (λ d. MayRelease (IsReal ⟦<D as Disk>⟧ J.start J.run J.seats J.began) J.start d.now.outward
         (HasExchangedAt N.L.same N.L.dialed N.L.given N.L.taken d.now.place) D.may_release) }
+    requires reports { IfSome destination (λ d. MayReport (IsReal ⟦<D as Disk>⟧ J.start J.run J.seats J.began) J.start d.now.outward
+        (HasExchangedAt N.L.same N.L.dialed N.L.given N.L.taken d.now.place) (N.may_report d.now.place)) }
     requires tells { MayTellLevels (HasLevel ⟦<D as Disk>⟧ J.start J.run J.seats J.began) J.run.number N.M.may_tell }
 
     ensures many { IfOk result (λ served. (vec_len served.doors ≡ vec_len posts) × (vec_len served.reports ≡ vec_len posts)) }
@@ -86,7 +91,7 @@ where
         Ok(opened) => opened,
         Err(NoShare { desk }) => return Err(Unserved { desk, posts }),
     };
-    serve_run::serve(rt, alloc, opened, posts, talks, destination, net, monitor)
+    serve_desk::serve(rt, alloc, opened, posts, talks, destination, net, monitor)
 }
 
 /// Runs the server over a spool that was opened for storing, from a disk as it was `before`: a worker at each of the doors, which ends
@@ -123,6 +128,8 @@ where
     requires dials { IfSome destination (λ d. N.may_dial d.now.place) }
     requires releases { IfSome destination (λ d. ForwarderMayRelease D.tells (λ (d : D). D.moment d) before.value d.now.outward
         (HasExchangedAt N.L.same N.L.dialed N.L.given N.L.taken d.now.place) D.may_release) }
+    requires reports { IfSome destination (λ d. ForwarderMayReport D.tells (λ (d : D). D.moment d) before.value d.now.outward
+        (HasExchangedAt N.L.same N.L.dialed N.L.given N.L.taken d.now.place) (N.may_report d.now.place)) }
     requires tells { MayTell D.tells (λ (d : D). D.moment d) before.value N.M.may_tell }
 
     ensures many { IfOk result (λ served. (vec_len served.doors ≡ vec_len posts) × (vec_len served.reports ≡ vec_len posts)) }

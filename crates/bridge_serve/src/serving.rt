@@ -15,6 +15,7 @@ ghost use Rattle.bridge_serve.specs.Noted.{note_of_run, PrintsLast};
 ghost use Rattle.bridge_serve.specs.Numbers.{MayTell};
 ghost use Rattle.bridge_serve.specs.Opened.{IsOpenedFrom};
 ghost use Rattle.bridge_serve.specs.Released.{ForwarderMayRelease, MayRelease};
+ghost use Rattle.bridge_serve.specs.Reported.{ForwarderMayReport, MayReport};
 ghost use Rattle.bridge_serve.specs.Served.{EndsAt, IsServed, line_after, setup_as};
 
 use crate::binding::{Posts, bind_places};
@@ -29,8 +30,8 @@ use desk_access::Division;
 use edge_disk::Disk;
 use edge_io::{Door, Net, Sink};
 use notes::Note;
+use serve_desk::{Served, Unserved};
 use serve_forwarder::Destination;
-use serve_run::{Served, Unserved};
 use spool_log::{Opening, Refusal, Spool};
 use std::alloc::Global;
 use std::snapshot::Snapshot;
@@ -120,6 +121,8 @@ where
     requires dials { IfSome destination (λ d. N.may_dial d.place) }
     requires releases { IfSome destination (λ d. ForwarderMayRelease D.tells (λ (d : D). D.moment d) before.value d.outward
         (HasExchangedAt N.L.same N.L.dialed N.L.given N.L.taken d.place) D.may_release) }
+    requires reports { IfSome destination (λ d. ForwarderMayReport D.tells (λ (d : D). D.moment d) before.value d.outward
+        (HasExchangedAt N.L.same N.L.dialed N.L.given N.L.taken d.place) (N.may_report d.place)) }
     requires tells { MayTell D.tells (λ (d : D). D.moment d) before.value N.M.may_tell }
     requires prints { (sink : K) (text : List ℕ) → K.permits sink text }
 
@@ -181,6 +184,9 @@ where
 /// become known once the peer at the place to forward to has received its entry, that is has acknowledged it (`IsReceived`). So it is
 /// at each moment, too, and where the words name no such place no number becomes known at all.
 ///
+/// What is reported as holding the forwarding up is, by `reports`, the entry that the session just held had offered alone and that was not
+/// acknowledged then, and the code with which the peer refused it, where it did (`IsHeldUp`).
+///
 /// Those who ask for numbers are told no others than the spool's, by `tells`, after a journal of calls that led to then (`MayTell`). That
 /// they are read after the question, and how many events were stored by each protocol, no clause says.
 pub fn serve<D: Disk + Drop + Send, K: Sink, N: Net + Send, R: Threads + Wait + Sync>(
@@ -204,6 +210,8 @@ where
     requires dials { MayDial server N.may_dial }
     requires releases { MayRelease D.tells (λ (d : D). D.moment d) disk server
         (HasExchangedAt N.L.same N.L.dialed N.L.given N.L.taken) D.may_release }
+    requires reports { MayReport D.tells (λ (d : D). D.moment d) disk server
+        (HasExchangedAt N.L.same N.L.dialed N.L.given N.L.taken) N.may_report }
     requires tears { LetsKeep D.tells D.moment D.may_tear D.may_release }
     requires tells { MayTell D.tells (λ (d : D). D.moment d) disk N.M.may_tell }
     requires prints { (sink : K) (text : List ℕ) → K.permits sink text }

@@ -4,7 +4,7 @@ ghost use Rattle.edge_io.specs.Door.{IsNewDoor};
 
 use crate::held::{Held, Movable, Plan};
 use crate::held_monitor::{Ask, HeldMonitor};
-use edge_io::{AcceptFault, Door, HeldUp, Net, NetFault, Object, Pause, Proto};
+use edge_io::{AcceptFault, Door, HeldUp, Net, NetFault, Object, Pause, Proto, Shortage};
 use std::alloc::{AllocError, Global};
 use std::sync::atomic::AtomicBool;
 
@@ -50,6 +50,7 @@ impl<'a> Door for HeldDoor<'a> {
         _: Proto,
         _: u64,
         status: u8,
+        _: Option<Shortage>,
     ) -> Result<(), AllocError> {
         self.read_faults = self.read_faults.saturating_add(link.read_faults);
         self.write_faults = self.write_faults.saturating_add(link.write_faults);
@@ -200,6 +201,8 @@ impl<'a> Net for HeldNet<'a> {
     ghost may_bind = { λ _. Unit {0} };
 
     ghost may_dial = { λ _. Unit {0} };
+
+    ghost may_report = { λ _ _. Unit {0} };
 
     ghost permits = { λ _ _ _ _ _. Unit {0} };
 

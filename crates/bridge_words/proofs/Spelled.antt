@@ -11,8 +11,8 @@ use Rattle.desk_access.specs.declared.division.Division.TheVariants.{Workers}
 use Rattle.edge_io.specs.declared.proto.Proto.TheVariants.{Hec}
 use Rattle.bridge_words.specs.declared.command.Command.TheVariants.{Replay, Drain, Serve}
 use Rattle.bridge_words.specs.declared.command.Receiver.TheVariants.{Relp as ToRelp}
-use Rattle.bridge_words.specs.declared.fault.WordsFault.{WordsFault}
-use Rattle.bridge_words.specs.declared.fault.WordsFault.TheVariants as wrong
+use Rattle.words_faults.specs.declared.fault.WordsFault.{WordsFault}
+use Rattle.words_faults.specs.declared.fault.WordsFault.TheVariants as wrong
 use Rattle.bridge_words.specs.Grammar.{refusals, named}
 use Rattle.bridge_words.specs.Values.{value_of, number_within, guid, relp_in, lumberjack_in, hec_in, status_in, division_in, workers_in, talks_in, group_in}
 use Rattle.bridge_words.specs.Wrong.IsWrong.{found}

@@ -16,8 +16,8 @@ use Rattle.bridge_words.specs.declared.command.Receiver.{Receiver}
 use Rattle.bridge_words.specs.declared.command.Receiver.TheVariants.{Relp as ToRelp, Lumberjack as ToLumberjack, Hec as ToHec}
 use Rattle.bridge_words.specs.declared.command.Relay.{Relay}
 use Rattle.bridge_words.specs.declared.command.Server.{Server}
-use Rattle.bridge_words.specs.declared.fault.WordsFault.{WordsFault}
-use Rattle.bridge_words.specs.declared.fault.WordsFault.TheVariants as wrong
+use Rattle.words_faults.specs.declared.fault.WordsFault.{WordsFault}
+use Rattle.words_faults.specs.declared.fault.WordsFault.TheVariants as wrong
 use Rattle.bridge_words.specs.Grammar.{named, refusals}
 use Rattle.bridge_words.specs.Spellings.{SpellsDoors, SpellsFormat, SpellsForward, SpellsList, SpellsLoad, SpellsOption, StandApart}
 use Rattle.bridge_words.specs.Spellings.{collector_words, format_words, forward_words, list_words, load_words, plain_server, serve_words, to_receiver}

@@ -4,7 +4,7 @@ use Rattle.std.specs.Prelude.{Option, Result, Ok, Err}
 use Rattle.std.specs.Result.{IsErr, IsErrAnd}
 use Rattle.clap.specs.Walk.{Text}
 use Rattle.edge_io.specs.declared.proto.Proto.{Proto}
-use Rattle.bridge_words.specs.declared.fault.WordsFault.{WordsFault}
+use Rattle.words_faults.specs.declared.fault.WordsFault.{WordsFault}
 use Rattle.bridge_words.specs.declared.reading.Unread.{Unread}
 use Rattle.bridge_words.specs.declared.reading.Unread.TheVariants.{Wrong}
 use Rattle.bridge_words.specs.Values.{receiver_of, relay_of}

@@ -12,7 +12,7 @@ use Rattle.bridge_words.specs.declared.command.Command.{Command}
 use Rattle.bridge_words.specs.declared.command.Command.TheVariants.{Format, List as ListCommand, Replay, Drain, Load, Serve}
 use Rattle.bridge_words.specs.declared.command.Receiver.{Receiver}
 use Rattle.bridge_words.specs.declared.command.Server.{Server}
-use Rattle.bridge_words.specs.declared.fault.WordsFault.{WordsFault}
+use Rattle.words_faults.specs.declared.fault.WordsFault.{WordsFault}
 use Rattle.bridge_words.specs.declared.reading.Unread.TheVariants.{Wrong}
 use Rattle.bridge_words.specs.Grammar.{refusals}
 use Rattle.bridge_words.specs.Values.{division_in, workers_in, talks_in}

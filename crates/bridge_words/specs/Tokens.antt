@@ -6,8 +6,8 @@ use Rattle.std.specs.Str.Lines.{lines}
 use Rattle.clap.specs.Walk.{Row, Text}
 use Rattle.hec_tokens.specs.declared.list.ListedToken.{ListedToken}
 use Rattle.bridge_words.specs.Values.{guid, value_of}
-use Rattle.bridge_words.specs.declared.fault.WordsFault.{WordsFault}
-use Rattle.bridge_words.specs.declared.fault.WordsFault.TheVariants.{Tokens, BothTokens}
+use Rattle.words_faults.specs.declared.fault.WordsFault.{WordsFault}
+use Rattle.words_faults.specs.declared.fault.WordsFault.TheVariants.{Tokens, BothTokens}
 
 -- a GUID as a token, with acks or without
 abbrev pub guid_token : Bool → Text → Option ListedToken

@@ -19,8 +19,8 @@ use Rattle.bridge_words.specs.declared.command.ListForm.TheVariants as form
 use Rattle.bridge_words.specs.declared.command.Relay.{Relay}
 use Rattle.bridge_words.specs.declared.command.Receiver.{Receiver}
 use Rattle.bridge_words.specs.declared.command.Receiver.TheVariants.{Relp as ToRelp, Lumberjack as ToLumberjack, Hec as ToHec}
-use Rattle.bridge_words.specs.declared.fault.WordsFault.{WordsFault}
-use Rattle.bridge_words.specs.declared.fault.WordsFault.TheVariants as wrong
+use Rattle.words_faults.specs.declared.fault.WordsFault.{WordsFault}
+use Rattle.words_faults.specs.declared.fault.WordsFault.TheVariants as wrong
 
 -- what was found of a command's words
 unfoldable pub rows_in : ArgMatches → List Row

@@ -14,7 +14,7 @@ use Rattle.bridge_words.specs.declared.command.Relay.{Relay}
 use Rattle.bridge_words.specs.declared.command.Server.{Server}
 use Rattle.bridge_words.specs.declared.command.Receiver.{Receiver}
 use Rattle.bridge_words.specs.declared.command.Receiver.TheVariants.{Hec as ToHec}
-use Rattle.bridge_words.specs.declared.fault.WordsFault.{WordsFault}
+use Rattle.words_faults.specs.declared.fault.WordsFault.{WordsFault}
 use Rattle.bridge_words.specs.declared.need.Need.{Need}
 use Rattle.bridge_words.specs.declared.need.Need.TheVariants.{NoCommand, Nothing, Existing, Make, Pair}
 use Rattle.bridge_words.specs.Grammar.{refusals, named}

@@ -1,4 +1,4 @@
--- What is wrong with words that are no command and move nothing, and the text for it.
+-- What is wrong with words that are no command and move nothing.
 use Rattle.std.specs.Prelude.{◌≡◌, ◌⊎◌, List, None, Some, Ok, Err, codes}
 use Rattle.clap.specs.Walk.{Row, Text}
 use Rattle.clap.specs.Kinds.{IsAmong}
@@ -6,8 +6,8 @@ use Rattle.clap.specs.declared.error.kind.ErrorKind.{ErrorKind}
 use Rattle.clap.specs.declared.error.kind.ErrorKind.TheVariants as kind
 use Rattle.desk_access.specs.declared.division.Division.{Division}
 use Rattle.bridge_words.specs.declared.command.Command.{Command}
-use Rattle.bridge_words.specs.declared.fault.WordsFault.{WordsFault}
-use Rattle.bridge_words.specs.declared.fault.WordsFault.TheVariants as fault
+use Rattle.words_faults.specs.declared.fault.WordsFault.{WordsFault}
+use Rattle.words_faults.specs.declared.fault.WordsFault.TheVariants as fault
 use Rattle.bridge_words.specs.declared.reading.Unread.{Unread}
 use Rattle.bridge_words.specs.declared.reading.Unread.TheVariants.{NoMemory, Wrong}
 use Rattle.bridge_words.specs.Grammar.{refusals, named}
@@ -90,37 +90,3 @@ pub data IsWrong (w : WordsFault) (words : List Text) : Type 0 where
   refused : (why : ErrorKind) → IsAmong why (refusals words) → w ≡ fault_for why → IsWrong w words
   nameless : named words ≡ None → w ≡ fault.NoCommand → IsWrong w words
   found : (name : Text) → (rows : List Row) → named words ≡ Some (name, rows) → WrongBy name w rows → IsWrong w words
-
--- the text has no end of line
-abbrev pub fault_text : WordsFault → Text
-fault_text fault.NoCommand = codes "no command is named"
-fault_text fault.UnknownWord = codes "unknown word or option"
-fault_text fault.MissingWord = codes "a word is missing"
-fault_text fault.MissingValue = codes "an option has no value"
-fault_text fault.ExtraValue = codes "an option takes no value"
-fault_text fault.GivenTwice = codes "an option is given twice"
-fault_text fault.Slots = codes "SLOTS: 1 to 1024"
-fault_text fault.Size = codes "SIZE: 4096 to 1073741824"
-fault_text fault.Proto = codes "PROTO: relp, lumberjack or hec"
-fault_text fault.Place = codes "PLACE: empty"
-fault_text fault.Number = codes "NUMBER: 0 to 2147483647"
-fault_text fault.Count = codes "COUNT: 0 to 100000"
-fault_text fault.Tag = codes "TAG: 0 to 4294967295"
-fault_text fault.Form = codes "--as: relp, json or hec"
-fault_text fault.Token = codes "--token: no GUID"
-fault_text fault.AckToken = codes "--ack-token: no GUID"
-fault_text fault.Tokens = codes "--tokens: 1 to 1000 lines, each a GUID or a GUID and ack"
-fault_text fault.BothTokens = codes "--tokens: not beside --token or --ack-token"
-fault_text fault.OutToken = codes "--out-token: no GUID"
-fault_text fault.OutChannel = codes "--out-channel: no GUID"
-fault_text fault.Polls = codes "--polls: 1 to 1000"
-fault_text fault.NoOutToken = codes "hec: --out-token is needed"
-fault_text fault.NoOutChannel = codes "hec: --out-channel is needed"
-fault_text fault.Workers = codes "--workers: 1 to 16"
-fault_text fault.Connections = codes "--connections: 1 to 1024"
-fault_text fault.BothCounts = codes "--connections: not beside --workers"
-fault_text fault.Talks = codes "--talks: 1 to 67108864"
-fault_text fault.TalksOfConnections = codes "--talks: 1 to 1048576 with --connections"
-fault_text fault.NoDoor = codes "serve: --relp, --lumberjack or --hec is needed"
-fault_text fault.NoTo = codes "--forward: --to is needed"
-fault_text fault.NoForward = codes "--to: --forward is needed"

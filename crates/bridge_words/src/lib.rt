@@ -18,7 +18,7 @@ mod tokens;
 mod values;
 
 pub use command::{Command, ListForm, Receiver, Relay, Server};
-pub use fault::{WordsFault, wrong_words};
+pub use fault::wrong_words;
 pub use law::{grouping, moving, one_command, one_move, spelling};
 pub use line::{drain_line, entry_line, move_line, serve_line, spool_line};
 pub use need::{Need, need_of};
@@ -27,3 +27,4 @@ pub use spelt::{
     counting, formatting, forwarding, listing, loading, naming_tokens, placing, serving,
 };
 pub use tokens::is_token;
+pub use words_faults::WordsFault;

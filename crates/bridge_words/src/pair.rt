@@ -1,17 +1,17 @@
 //! Two spools: what the words of `move` ask for.
 ghost use Rattle.std.specs.Prelude.{◌≡◌, Err, IfOk};
-ghost use Rattle.bridge_words.specs.declared.fault.WordsFault.{WordsFault};
+ghost use Rattle.words_faults.specs.declared.fault.WordsFault.{WordsFault};
 ghost use Rattle.bridge_words.specs.declared.reading.Unread.TheVariants.{Wrong};
 ghost use Rattle.bridge_words.specs.Values.{rows_in};
 ghost use Rattle.bridge_words.specs.Words.{IsPair};
 ghost use Rattle.bridge_words.specs.Wrong.{WrongMove};
 
-use crate::fault::WordsFault;
 use crate::reading::Unread;
 use crate::values::{number_for, path_for};
 use clap::ArgMatches;
 use std::alloc::{AllocError, Global};
 use std::marker::Model;
+use words_faults::WordsFault;
 
 /// The path of a file, as its user names it. Contracts see its bytes.
 #[derive(Drop)]

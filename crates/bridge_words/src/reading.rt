@@ -1,13 +1,12 @@
 //! The one reading of the words: clap finds what stands where, and each word is then tested.
 ghost use Rattle.std.specs.Prelude.{◌≡◌, ◌≢◌, Err, IfOk, codes, map, string_bytes};
-ghost use Rattle.bridge_words.specs.declared.fault.WordsFault.{WordsFault};
+ghost use Rattle.words_faults.specs.declared.fault.WordsFault.{WordsFault};
 ghost use Rattle.bridge_words.specs.declared.reading.Unread.TheVariants.{NoMemory, Wrong};
 ghost use Rattle.bridge_words.specs.Values.{rows_in, receiver_of};
 ghost use Rattle.bridge_words.specs.Asked.{IsAskedBy, IsAsked};
 ghost use Rattle.bridge_words.specs.Words.{IsNamed, receiver_in, HasPolls};
 ghost use Rattle.bridge_words.specs.Wrong.{unread_for, WrongFormat, WrongList, WrongReplay, WrongDrain, WrongLoad, WrongBy, IsWrong};
 
-use crate::fault::WordsFault;
 use crate::grammar::{found, parse};
 use crate::pair::{Pair, pair_in};
 use crate::server::serve_in;
@@ -17,6 +16,7 @@ use clap::ArgMatches;
 use clap::error::ErrorKind;
 use edge_io::Proto;
 use std::alloc::{AllocError, Global};
+use words_faults::WordsFault;
 
 /// Why no command was read from the words.
 #[derive(Drop)]

@@ -1,13 +1,12 @@
 //! What the words of `serve` ask for.
 ghost use Rattle.std.specs.Prelude.{◌≡◌, ◌⊎◌, ◌≤◌, ◌↔◌, IsTrue, Err, Ok, IfOk, codes};
 ghost use Rattle.desk_access.specs.Division.{each_of};
-ghost use Rattle.bridge_words.specs.declared.fault.WordsFault.{WordsFault};
+ghost use Rattle.words_faults.specs.declared.fault.WordsFault.{WordsFault};
 ghost use Rattle.bridge_words.specs.declared.reading.Unread.TheVariants.{Wrong};
 ghost use Rattle.bridge_words.specs.Values.{rows_in, division_in, workers_in, talks_in, relay_of};
 ghost use Rattle.bridge_words.specs.Words.{HasDoor, AreDoors, HasRelayPolls, IsCrew, IsNamed, most_workers, relay_in};
 ghost use Rattle.bridge_words.specs.Wrong.{WrongCounts, WrongDoors, WrongServe};
 
-use crate::fault::WordsFault;
 use crate::reading::{Unread, receiver_of};
 use crate::tokens::{AskedTokens, tokens_in};
 use crate::values::{flag_for, forward_in, guid_for, number_for, number_or, place_for, value_of};
@@ -17,6 +16,7 @@ use desk_access::Division;
 use edge_io::Proto;
 use notes::Place;
 use std::alloc::Global;
+use words_faults::WordsFault;
 
 /// The places at which connections come in.
 #[derive(Drop)]

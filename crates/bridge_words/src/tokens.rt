@@ -1,20 +1,20 @@
 //! The tokens of the HTTP Event Collector, as the words of `serve` have them.
 ghost use Rattle.std.specs.Prelude.{◌≡◌, ◌↔◌, Err, Ok, IfOk, IsSome, IsTrue, MatchOption, None, Some, map};
 ghost use Rattle.std.specs.Str.Lines.{lines};
-ghost use Rattle.bridge_words.specs.declared.fault.WordsFault.{WordsFault};
-ghost use Rattle.bridge_words.specs.declared.fault.WordsFault.TheVariants.{Tokens};
+ghost use Rattle.words_faults.specs.declared.fault.WordsFault.{WordsFault};
+ghost use Rattle.words_faults.specs.declared.fault.WordsFault.TheVariants.{Tokens};
 ghost use Rattle.bridge_words.specs.declared.reading.Unread.TheVariants.{Wrong};
 ghost use Rattle.bridge_words.specs.Values.{rows_in, value_of};
 ghost use Rattle.bridge_words.specs.Tokens.{guid_token, listed_in, token_at, tokens_at, tokens_of};
 ghost use Rattle.bridge_words.specs.Words.{AreTokens};
 ghost use Rattle.bridge_words.specs.Wrong.{WrongTokens};
 
-use crate::fault::WordsFault;
 use crate::reading::Unread;
 use crate::values::{guid, guid_for, value_of};
 use clap::ArgMatches;
 use hec_tokens::{ListedToken, TokenList};
 use std::alloc::{AllocError, Global};
+use words_faults::WordsFault;
 
 /// At most so many tokens are listed.
 const MOST_TOKENS: usize = 1000;

@@ -1,13 +1,12 @@
 //! The words of the commands, each read from what clap found.
 ghost use Rattle.std.specs.Prelude.{◌≡◌, ◌≤◌, None, Some, Ok, Err, IfOk, MatchOption};
-ghost use Rattle.bridge_words.specs.declared.fault.WordsFault.{WordsFault};
-ghost use Rattle.bridge_words.specs.declared.fault.WordsFault.TheVariants.{MissingWord};
+ghost use Rattle.words_faults.specs.declared.fault.WordsFault.{WordsFault};
+ghost use Rattle.words_faults.specs.declared.fault.WordsFault.TheVariants.{MissingWord};
 ghost use Rattle.bridge_words.specs.declared.reading.Unread.TheVariants.{Wrong};
 ghost use Rattle.bridge_words.specs.Values.{value_of, rows_in, guid, proto_at, form_at, number_within, must_be, may_be, is_else, place_for, is_given};
 ghost use Rattle.bridge_words.specs.Values.{proto_in, form_in, forward_in};
 
 use crate::ListForm;
-use crate::fault::WordsFault;
 use crate::number::number_within;
 use crate::pair::FilePath;
 use crate::reading::Unread;
@@ -16,6 +15,7 @@ use edge_io::Proto;
 use notes::Place;
 use std::alloc::Global;
 use uuid::Uuid;
+use words_faults::WordsFault;
 
 /// The text that stands for a word of the command.
 pub(crate) fn value_of<'a>(matches: &ArgMatches<'a>, id: &str) -> Option<&'a str>

@@ -70,7 +70,7 @@ fn refuse_pair(rt: &HostRuntime, file: &str, target: &str, fault: PairFault) -> 
         PairFault::Second(fault) => refuse(rt, target, fault),
         PairFault::OneFile => {
             let _ = eprintln!(rt; "bridge: {file} and {target} are one file");
-            Ending::Noted(Note::DiskFault)
+            Ending::Unopened
         }
     }
 }

@@ -9,11 +9,12 @@ use cli_parts::{Ending, print_unopened};
 use edge_file::OpenFault;
 use notes::Note;
 
-/// Says why the file wasn't opened, and ends with that: `InUse` where it is in use, `NoMemory` where no memory was found, and else a fault of
-/// the disk.
+/// Says why the file wasn't opened, and ends with that: `InUse` where it is in use, `NoMemory` where no memory was found, and else
+/// `Unopened`.
 pub fn refuse(rt: &HostRuntime, file: &str, fault: OpenFault) -> Ending
     ensures note { (note_in result ≡ DiskFault) ⊎ (note_in result ≡ NoMemory) }
     ensures in_use { (result ≡ Ending.InUse) ↔ (fault ≡ OpenFault.InUse) }
+    ensures said { (result ≡ Ending.Unopened) ⊎ ((result ≡ Ending.InUse) ⊎ (note_in result ≡ NoMemory)) }
     ensures memory { (note_in result ≡ NoMemory) ↔ (fault ≡ OpenFault.NoMemory) }
 {
     match fault {
@@ -24,7 +25,7 @@ pub fn refuse(rt: &HostRuntime, file: &str, fault: OpenFault) -> Ending
         OpenFault::NoMemory => Ending::Noted(Note::NoMemory),
         _ => {
             print_unopened(rt, file, fault);
-            Ending::Noted(Note::DiskFault)
+            Ending::Unopened
         }
     }
 }

@@ -45,7 +45,7 @@ fn rescue_over<D: Disk, K: Sink>(
     }
 }
 
-// Prints the note with which no file was opened. One that is in use has none.
+// Prints the note with which no file was opened. Where a line has said why it isn't, there is none.
 fn print_refused(rt: &HostRuntime, ending: Ending) {
     if let Ending::Noted(note) = ending {
         print_note(rt, note);

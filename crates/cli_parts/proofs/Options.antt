@@ -3,8 +3,8 @@ use Rattle.std.proofs.Common.{◌≡◌, ◌∙◌, ◌-◌, ◌<◌, ◌≤◌,
 use Rattle.std.proofs.lemmas.List.{take_rest, append-nil}
 use Rattle.cli_parts.specs.declared.run_options.RunOptions.{RunOptions}
 use Rattle.cli_parts.specs.declared.run_options.WrongOption.{WrongOption}
-use Rattle.cli_parts.specs.declared.run_options.WrongOption.TheVariants.{QuietTwice, QuietValue, IdleElsewhere, IdleTwice, IdleNoValue, IdleRange}
-use Rattle.cli_parts.specs.RunOptions.{Text, no_options, option_name, IsNoOption, IsNoSeconds, IsRead, named, quiet, idle, other, AreTaken, TakesIdle, IsWrongNext}
+use Rattle.cli_parts.specs.declared.run_options.WrongOption.TheVariants.{QuietTwice, QuietValue, IdleElsewhere, IdleTwice, IdleNoValue, IdleRange, MemoryElsewhere, MemoryTwice, MemoryNoValue, MemoryRange}
+use Rattle.cli_parts.specs.RunOptions.{Text, no_options, option_name, IsNoOption, IsNoBytes, IsNoSeconds, IsRead, named, quiet, idle, memory, other, AreTaken, TakesIdle, TakesMemory, IsWrongNext}
 use Rattle.cli_parts.specs.Piece.{IsNext, so_far_as}
 
 -- the first of some elements, and the others as a pattern has them
@@ -47,6 +47,24 @@ next_idle_with name word value more old new kept is takes = record {
       (idle was takes.once takes.serves (inr (ap (λ w. w ∷ []) is)) takes.read);
 }
 
+pub next_memory : (name word value : Text) (whole more : List Text) (old new : RunOptions) (kept : List Text) → whole ≡ value ∷ more
+    → word ≡ codes "--memory" → TakesMemory name value old new → IsNext name (word ∷ whole) more (so_far_as old kept) (so_far_as new kept)
+next_memory name word value whole more old new kept whole_is is takes = record {
+  own = word ∷ value ∷ [];
+  words_are = ap (λ l. word ∷ l) whole_is;
+  goes_on = λ read was. subst (λ (o : RunOptions). IsRead name (read ++ word ∷ value ∷ []) o kept) (sym takes.new_is)
+      (memory was takes.once takes.serves (inl (ap (λ w. w ∷ value ∷ []) is)) takes.read);
+}
+
+pub next_memory_with : (name word value : Text) (more : List Text) (old new : RunOptions) (kept : List Text) → word ≡ codes "--memory=" ++ value
+    → TakesMemory name value old new → IsNext name (word ∷ more) more (so_far_as old kept) (so_far_as new kept)
+next_memory_with name word value more old new kept is takes = record {
+  own = word ∷ [];
+  words_are = refl;
+  goes_on = λ read was. subst (λ (o : RunOptions). IsRead name (read ++ word ∷ []) o kept) (sym takes.new_is)
+      (memory was takes.once takes.serves (inr (ap (λ w. w ∷ []) is)) takes.read);
+}
+
 -- what is wrong with them
 
 pub wrong_idle : (name word value : Text) (whole more : List Text) (old : RunOptions) (wrong : WrongOption) → whole ≡ value ∷ more
@@ -58,6 +76,10 @@ wrong_idle name word value whole more old IdleTwice whole_is is why = (why, (wor
 wrong_idle name word value whole more old IdleNoValue whole_is is why = absurd why
 wrong_idle name word value whole more old IdleRange whole_is is why =
     (word ∷ value ∷ [], more, value, ap (λ l. word ∷ l) whole_is, inl (ap (λ w. w ∷ value ∷ []) is), why)
+wrong_idle name word value whole more old MemoryElsewhere whole_is is why = absurd why
+wrong_idle name word value whole more old MemoryTwice whole_is is why = absurd why
+wrong_idle name word value whole more old MemoryNoValue whole_is is why = absurd why
+wrong_idle name word value whole more old MemoryRange whole_is is why = absurd why
 
 pub wrong_idle_with : (name word value : Text) (more : List Text) (old : RunOptions) (wrong : WrongOption) → word ≡ codes "--idle=" ++ value
     → IsNoSeconds wrong name old value → IsWrongNext wrong name old (word ∷ more)
@@ -67,6 +89,37 @@ wrong_idle_with name word value more old IdleElsewhere is why = (why, (word, mor
 wrong_idle_with name word value more old IdleTwice is why = (why, (word, more, refl, ap option_name is))
 wrong_idle_with name word value more old IdleNoValue is why = absurd why
 wrong_idle_with name word value more old IdleRange is why = (word ∷ [], more, value, refl, inr (ap (λ w. w ∷ []) is), why)
+wrong_idle_with name word value more old MemoryElsewhere is why = absurd why
+wrong_idle_with name word value more old MemoryTwice is why = absurd why
+wrong_idle_with name word value more old MemoryNoValue is why = absurd why
+wrong_idle_with name word value more old MemoryRange is why = absurd why
+
+pub wrong_memory : (name word value : Text) (whole more : List Text) (old : RunOptions) (wrong : WrongOption) → whole ≡ value ∷ more
+    → word ≡ codes "--memory" → IsNoBytes wrong name old value → IsWrongNext wrong name old (word ∷ whole)
+wrong_memory name word value whole more old QuietTwice whole_is is why = absurd why
+wrong_memory name word value whole more old QuietValue whole_is is why = absurd why
+wrong_memory name word value whole more old MemoryElsewhere whole_is is why = (why, (word, whole, refl, ap option_name is))
+wrong_memory name word value whole more old MemoryTwice whole_is is why = (why, (word, whole, refl, ap option_name is))
+wrong_memory name word value whole more old MemoryNoValue whole_is is why = absurd why
+wrong_memory name word value whole more old MemoryRange whole_is is why =
+    (word ∷ value ∷ [], more, value, ap (λ l. word ∷ l) whole_is, inl (ap (λ w. w ∷ value ∷ []) is), why)
+wrong_memory name word value whole more old IdleElsewhere whole_is is why = absurd why
+wrong_memory name word value whole more old IdleTwice whole_is is why = absurd why
+wrong_memory name word value whole more old IdleNoValue whole_is is why = absurd why
+wrong_memory name word value whole more old IdleRange whole_is is why = absurd why
+
+pub wrong_memory_with : (name word value : Text) (more : List Text) (old : RunOptions) (wrong : WrongOption) → word ≡ codes "--memory=" ++ value
+    → IsNoBytes wrong name old value → IsWrongNext wrong name old (word ∷ more)
+wrong_memory_with name word value more old QuietTwice is why = absurd why
+wrong_memory_with name word value more old QuietValue is why = absurd why
+wrong_memory_with name word value more old MemoryElsewhere is why = (why, (word, more, refl, ap option_name is))
+wrong_memory_with name word value more old MemoryTwice is why = (why, (word, more, refl, ap option_name is))
+wrong_memory_with name word value more old MemoryNoValue is why = absurd why
+wrong_memory_with name word value more old MemoryRange is why = (word ∷ [], more, value, refl, inr (ap (λ w. w ∷ []) is), why)
+wrong_memory_with name word value more old IdleElsewhere is why = absurd why
+wrong_memory_with name word value more old IdleTwice is why = absurd why
+wrong_memory_with name word value more old IdleNoValue is why = absurd why
+wrong_memory_with name word value more old IdleRange is why = absurd why
 
 pub next_other : (name word : Text) (more : List Text) (old new : RunOptions) (kept now : List Text) → IsNoOption word → new ≡ old
     → now ≡ kept ++ word ∷ [] → IsNext name (word ∷ more) more (so_far_as old kept) (so_far_as new now)

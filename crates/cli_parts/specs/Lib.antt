@@ -5,6 +5,7 @@ pub mod Opening
 pub mod Piece
 pub mod RescueWords
 pub mod RunOptions
+pub mod Sizes
 pub mod SkipWords
 pub mod Tally
 pub mod Backlog

@@ -1,7 +1,7 @@
 -- How the next of a command's words is read, where it may be an option of a run, and what is taken of all.
 use Rattle.std.specs.Prelude.{◌≡◌, ◌≢◌, ◌⊎◌, List, ◌++◌, codes, map, string_bytes}
 use Rattle.cli_parts.specs.declared.run_options.Piece.{Piece}
-use Rattle.cli_parts.specs.declared.run_options.Piece.TheVariants.{Quiet, QuietWith, Idle, IdleWith, Other}
+use Rattle.cli_parts.specs.declared.run_options.Piece.TheVariants.{Quiet, QuietWith, Idle, IdleWith, Memory, MemoryWith, Other}
 use Rattle.cli_parts.specs.declared.run_options.RunOptions.{RunOptions}
 use Rattle.cli_parts.specs.declared.run_options.Taken.{Taken}
 use Rattle.cli_parts.specs.RunOptions.{Text, IsNoOption, IsRead, AreTaken, AreNone}
@@ -12,13 +12,16 @@ IsPiece Quiet word = word ≡ codes "--quiet"
 IsPiece QuietWith word = (value : Text) × (word ≡ codes "--quiet=" ++ value)
 IsPiece Idle word = word ≡ codes "--idle"
 IsPiece (IdleWith value) word = word ≡ codes "--idle=" ++ value.now
+IsPiece Memory word = word ≡ codes "--memory"
+IsPiece (MemoryWith value) word = word ≡ codes "--memory=" ++ value.now
 IsPiece Other word = IsNoOption word
 
 -- the same of a word without `=`
 abbrev pub IsPlain : Piece → Text → Type 0
 IsPlain Quiet word = word ≡ codes "--quiet"
 IsPlain Idle word = word ≡ codes "--idle"
-IsPlain Other word = (word ≢ codes "--quiet") × (word ≢ codes "--idle")
+IsPlain Memory word = word ≡ codes "--memory"
+IsPlain Other word = (word ≢ codes "--quiet") × (word ≢ codes "--idle") × (word ≢ codes "--memory")
 IsPlain piece word = ⊥
 
 -- what came of the words that were read: the options, and the words that are kept

@@ -4,7 +4,7 @@ use Rattle.std.specs.List.{before_first}
 use Rattle.bridge_words.specs.Values.{number_within}
 use Rattle.cli_parts.specs.declared.run_options.RunOptions.{RunOptions}
 use Rattle.cli_parts.specs.declared.run_options.WrongOption.{WrongOption}
-use Rattle.cli_parts.specs.declared.run_options.WrongOption.TheVariants.{QuietTwice, QuietValue, IdleElsewhere, IdleTwice, IdleNoValue, IdleRange}
+use Rattle.cli_parts.specs.declared.run_options.WrongOption.TheVariants.{QuietTwice, QuietValue, IdleElsewhere, IdleTwice, IdleNoValue, IdleRange, MemoryElsewhere, MemoryTwice, MemoryNoValue, MemoryRange}
 
 -- the bytes of a word
 abbrev pub Text : Type 0
@@ -12,7 +12,7 @@ Text = List ℕ
 
 -- none is given
 abbrev pub no_options : RunOptions
-no_options = record { is_quiet = false; idle = None }
+no_options = record { is_quiet = false; idle = None; memory = None }
 
 -- the name of an option: what stands before its `=`
 abbrev pub option_name : Text → Text
@@ -22,17 +22,26 @@ option_name word = before_first (λ b. b == 61) word
 pub record IsNoOption (word : Text) : Type 0 where
   pub no_quiet : option_name word ≢ codes "--quiet"
   pub no_idle : option_name word ≢ codes "--idle"
+  pub no_memory : option_name word ≢ codes "--memory"
 
 -- `--idle SECONDS` or `--idle=SECONDS`
 abbrev pub IsIdle : List Text → Text → Type 0
 IsIdle words value = (words ≡ codes "--idle" ∷ value ∷ []) ⊎ (words ≡ (codes "--idle=" ++ value) ∷ [])
+
+-- `--memory BYTES` or `--memory=BYTES`
+abbrev pub IsMemory : List Text → Text → Type 0
+IsMemory words value = (words ≡ codes "--memory" ∷ value ∷ []) ⊎ (words ≡ (codes "--memory=" ++ value) ∷ [])
+
+-- a number of bytes
+abbrev pub bytes_in : Text → Option ℕ
+bytes_in value = number_within 16777216 8589934592 value
 
 -- a number of seconds
 abbrev pub seconds_in : Text → Option ℕ
 seconds_in value = number_within 1 86400 value
 
 -- The name of a command and words after it, none of which ends the options; the options of the run among them, each of which stands once
--- at most, and `--idle` with `serve` alone; and the other words, in their order.
+-- at most, and `--idle` and `--memory` with `serve` alone; and the other words, in their order.
 pub data IsRead (name : Text) : List Text → RunOptions → List Text → Type 0 where
   named : IsRead name (name ∷ []) no_options (name ∷ [])
   quiet : {words kept : List Text} {options : RunOptions} → IsRead name words options kept → options.is_quiet ≡ false
@@ -40,6 +49,9 @@ pub data IsRead (name : Text) : List Text → RunOptions → List Text → Type 
   idle : {words kept own : List Text} {options : RunOptions} {value : Text} {n : ℕ} → IsRead name words options kept → options.idle ≡ None
       → name ≡ codes "serve" → IsIdle own value → seconds_in value ≡ Some n
       → IsRead name (words ++ own) (record options { idle = Some n }) kept
+  memory : {words kept own : List Text} {options : RunOptions} {value : Text} {n : ℕ} → IsRead name words options kept → options.memory ≡ None
+      → name ≡ codes "serve" → IsMemory own value → bytes_in value ≡ Some n
+      → IsRead name (words ++ own) (record options { memory = Some n }) kept
   other : {words kept : List Text} {options : RunOptions} {word : Text} → IsRead name words options kept → IsNoOption word
       → IsRead name (words ++ word ∷ []) options (kept ++ word ∷ [])
 
@@ -68,6 +80,25 @@ pub record AreNone (words : List Text) (options : RunOptions) (left : List Text)
 abbrev pub BeginsIdle : List Text → Type 0
 BeginsIdle words = (word : Text) × (more : List Text) × (words ≡ word ∷ more) × (option_name word ≡ codes "--idle")
 
+-- `--memory` or `--memory=BYTES` is the first of the words
+abbrev pub BeginsMemory : List Text → Type 0
+BeginsMemory words = (word : Text) × (more : List Text) × (words ≡ word ∷ more) × (option_name word ≡ codes "--memory")
+
+-- BYTES of `--memory` is taken: it is one of `serve`, the first, and in range
+pub record TakesMemory (name value : Text) (old new : RunOptions) : Type 0 where
+  pub bytes : ℕ
+  pub serves : name ≡ codes "serve"
+  pub once : old.memory ≡ None
+  pub read : bytes_in value ≡ Some bytes
+  pub new_is : new ≡ record old { memory = Some bytes }
+
+-- why BYTES isn't taken, after these options
+abbrev pub IsNoBytes : WrongOption → Text → RunOptions → Text → Type 0
+IsNoBytes MemoryElsewhere name options value = name ≢ codes "serve"
+IsNoBytes MemoryTwice name options value = IsSome options.memory
+IsNoBytes MemoryRange name options value = bytes_in value ≡ None
+IsNoBytes wrong name options value = ⊥
+
 -- SECONDS of `--idle` is taken: it is one of `serve`, the first, and in range
 pub record TakesIdle (name value : Text) (old new : RunOptions) : Type 0 where
   pub seconds : ℕ
@@ -92,6 +123,11 @@ IsWrongNext IdleTwice name options words = IsSome options.idle × BeginsIdle wor
 IsWrongNext IdleNoValue name options words = words ≡ codes "--idle" ∷ []
 IsWrongNext IdleRange name options words =
     (own more : List Text) × (value : Text) × (words ≡ own ++ more) × IsIdle own value × (seconds_in value ≡ None)
+IsWrongNext MemoryElsewhere name options words = (name ≢ codes "serve") × BeginsMemory words
+IsWrongNext MemoryTwice name options words = IsSome options.memory × BeginsMemory words
+IsWrongNext MemoryNoValue name options words = words ≡ codes "--memory" ∷ []
+IsWrongNext MemoryRange name options words =
+    (own more : List Text) × (value : Text) × (words ≡ own ++ more) × IsMemory own value × (bytes_in value ≡ None)
 
 -- what is wrong with the first option among the words that is wrong
 pub record IsWrong (wrong : WrongOption) (words : List Text) : Type 0 where
@@ -112,3 +148,7 @@ wrong_text IdleElsewhere = codes "--idle: an option of serve alone, 1 to 86400 s
 wrong_text IdleTwice = codes "--idle: given twice; once, 1 to 86400 seconds"
 wrong_text IdleNoValue = codes "--idle: no value; 1 to 86400 seconds"
 wrong_text IdleRange = codes "--idle: 1 to 86400 seconds"
+wrong_text MemoryElsewhere = codes "--memory: an option of serve alone, 16777216 to 8589934592 bytes"
+wrong_text MemoryTwice = codes "--memory: given twice; once, 16777216 to 8589934592 bytes"
+wrong_text MemoryNoValue = codes "--memory: no value; 16777216 to 8589934592 bytes"
+wrong_text MemoryRange = codes "--memory: 16777216 to 8589934592 bytes; the largest request needs the least of these"

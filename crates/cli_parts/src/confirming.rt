@@ -10,11 +10,13 @@ ghost use Rattle.spool_log.specs.declared.fault.RecoverFault.TheVariants.{DiskFa
 ghost use Rattle.spool_log.specs.declared.opening.Opening.TheVariants.{Keep};
 ghost use Rattle.spool_log.specs.Opening.{IsRefusedAs};
 ghost use Rattle.notes.specs.declared.note.Note.TheVariants.{DiskFault, NoMemory};
+ghost use Rattle.cli_parts.specs.Ending.{note_in};
 
 use crate::arguments::Arguments;
 use crate::health::Waiting;
 use crate::opening::Showing;
 use crate::progress::{Progress, Watched};
+use crate::status::Ending;
 use bridge_parts::pending_count;
 use bridge_words::{Need, need_of};
 use edge_disk::Disk;
@@ -69,9 +71,9 @@ fn agrees(rt: &(impl AllocGlobal + Eprint + Input), file: &str, pending: u64) ->
 }
 
 // Asks about the spool on the disk, where it has entries that are pending.
-fn agrees_over<D: Disk + Drop>(rt: &HostRuntime, file: &str, disk: D) -> Result<(), Note>
+fn agrees_over<D: Disk + Drop>(rt: &HostRuntime, file: &str, disk: D) -> Result<(), Ending>
     requires tears { LetsKeep D.tells D.moment D.may_tear D.may_release }
-    ensures { IfErr result (λ note. (note ≡ DiskFault) ⊎ (note ≡ NoMemory)) }
+    ensures { IfErr result (λ ending. (note_in ending ≡ DiskFault) ⊎ (note_in ending ≡ NoMemory)) }
 {
     let Looked {
         pending,
@@ -80,9 +82,9 @@ fn agrees_over<D: Disk + Drop>(rt: &HostRuntime, file: &str, disk: D) -> Result<
     match pending {
         Ok(pending) if pending > 0 && !agrees(rt, file, pending) => {
             let _ = eprintln!(rt; "bridge: {file}: left as it is");
-            Err(Note::DiskFault)
+            Err(Ending::Unopened)
         }
-        Err(RecoverFault::NoMemory) => Err(Note::NoMemory),
+        Err(RecoverFault::NoMemory) => Err(Ending::Noted(Note::NoMemory)),
         _ => Ok(()),
     }
 }
@@ -91,10 +93,10 @@ fn agrees_over<D: Disk + Drop>(rt: &HostRuntime, file: &str, disk: D) -> Result<
 /// of the length that is asked for with entries that are pending, the user is asked first. FILE is only read, and nobody else has it until
 /// the question is answered.
 ///
-/// The error is the note to end with: `DiskFault` where the answer is another one than `y` or `yes`, which FILE's line says, and `NoMemory`
-/// where no memory was found to look into FILE. Where FILE can't be opened or read, or is no spool, nothing is asked.
-pub fn confirm(rt: &HostRuntime, arguments: &Arguments) -> Result<(), Note>
-    ensures { IfErr result (λ note. (note ≡ DiskFault) ⊎ (note ≡ NoMemory)) }
+/// The error is how to end: `Unopened` where the answer is another one than `y` or `yes`, which FILE's line says, and with `NoMemory` where
+/// no memory was found to look into FILE. Where FILE can't be opened or read, or is no spool, nothing is asked.
+pub fn confirm(rt: &HostRuntime, arguments: &Arguments) -> Result<(), Ending>
+    ensures { IfErr result (λ ending. (note_in ending ≡ DiskFault) ⊎ (note_in ending ≡ NoMemory)) }
 {
     if !rt.stdin().is_terminal() {
         return Ok(());

@@ -2,7 +2,9 @@
 use crate::StandardError;
 use edge_disk::DiskFault;
 use edge_file::Home;
-use edge_net::Since;
+use edge_net::FileCounts;
+use std::rt::Clock;
+use std::time::Duration;
 
 /// A call of the file.
 #[derive(Clone, Copy, PartialEq, Eq)]
@@ -62,8 +64,8 @@ impl Waiting {
 /// Where it goes how FILE is, beside the command that runs over it.
 #[derive(Clone, Copy)]
 pub struct Told<'a> {
-    /// Where it is noted since when calls fail.
-    pub failing: &'a Since,
+    /// Where calls are counted, and it is noted since when they fail.
+    pub file: &'a FileCounts,
     /// Where lines go.
     pub errors: &'a StandardError,
 }
@@ -77,7 +79,7 @@ pub(crate) struct HealthLines<'a> {
     name: &'static str,
     waiting: Waiting,
     health: Health,
-    // Where it is noted too since when calls fail, and where lines go, if not straight to standard error.
+    // Where calls are counted, and it is noted too since when they fail, and where lines go, if not straight to standard error.
     told: Option<Told<'a>>,
     // Where it stood as it was opened, as far as that is known.
     home: Option<Home>,
@@ -123,8 +125,8 @@ impl<'a> HealthLines<'a> {
             return;
         };
         match self.health {
-            Health::Well => told.failing.is_well(),
-            Health::Unread { .. } | Health::Failing => told.failing.fails(self.rt),
+            Health::Well => told.file.failing.is_well(),
+            Health::Unread { .. } | Health::Failing => told.file.failing.fails(self.rt),
         }
     }
 
@@ -135,6 +137,28 @@ impl<'a> HealthLines<'a> {
             Some(told) => eprintln!(told.errors; "bridge: {before}{name}{after}{notice}"),
             None => eprintln!(self.rt; "bridge: {before}{name}{after}{notice}"),
         };
+    }
+
+    /// The time, where calls are counted and there is a clock.
+    pub(crate) fn time(&self) -> Option<Duration> {
+        match self.told {
+            Some(_) => self.rt.monotonic().ok(),
+            None => None,
+        }
+    }
+
+    /// Counts a sync that began at that time.
+    pub(crate) fn synced(&self, began: Option<Duration>) {
+        if let (Some(told), Some(began), Some(now)) = (self.told, began, self.time()) {
+            told.file.synced(now.saturating_sub(began));
+        }
+    }
+
+    /// Counts so many bytes that were written.
+    pub(crate) fn wrote(&self, bytes: usize) {
+        if let Some(told) = self.told {
+            told.file.wrote(bytes);
+        }
     }
 
     /// Says what a call shows, where that is new.

@@ -3,8 +3,9 @@ ghost use Rattle.std.specs.Prelude.{◌≡◌, ◌≢◌, ◌⊎◌, All, IfSome
 ghost use Rattle.cli_parts.specs.declared.help.Question.{Question};
 ghost use Rattle.cli_parts.specs.Help.{asked_by, IsFirst, IsSilent};
 
-/// The version: the day of the newest of the changes that CHANGELOG.md tells of.
-const VERSION: &str = "bridge 2026-12-01";
+/// The version: the newest head of the changes that CHANGELOG.md tells of, which is their day, and a number after it where the day has
+/// several.
+const VERSION: &str = "bridge 2026-12-01.2";
 
 /// The page of help: what FILE is, a line for each command, for each option and for each exit status. tests/pages compares it with the
 /// manual.
@@ -14,7 +15,8 @@ Receives log events, keeps them in FILE, acknowledges only what is durable, and 
 FILE is the spool: a file of a fixed size, which `format` makes. A block device may be one.
 
 Commands, as `bridge FILE COMMAND ..`:
-  format SLOTS SIZE          makes FILE an empty spool of SLOTS slots of SIZE bytes each
+  format SLOTS SIZE          makes FILE an empty spool of SLOTS slots of SIZE bytes each;
+                             SIZE may end with K, M or G, as in 64M
   replay PROTO               serves standard input as one connection, and answers on standard output
   list                       prints the pending entries
   drain PROTO [PLACE]        forwards the pending entries, to PLACE or to standard output
@@ -47,6 +49,8 @@ Options, after the command's name:
   --out-channel GUID    drain, serve: the channel of the requests to it, any GUID
   --polls N             drain, serve: how often it is asked about an ack id, 1 to 1000 (60)
   --idle SECONDS        serve: how long a sender may be silent, 1 to 86400 (600)
+  --memory BYTES        serve: how much memory senders' connections may take, 16777216 to
+                        8589934592 (268435456)
   --quiet               any: standard error gets no line about the network
 
 Exit statuses; a line on standard error says more:
@@ -70,9 +74,74 @@ Exit statuses; a line on standard error says more:
 
 The manual bridge(1) has the rest.";
 
+/// A call of a command, which its help shows.
+#[derive(Clone, Copy)]
+struct Example {
+    command: &'static str,
+    call: &'static str,
+}
+
+// One of each command.
+const EXAMPLES: [Example; 9] = [
+    Example {
+        command: "format",
+        call: "bridge /var/lib/bridge/logs format 16 64M",
+    },
+    Example {
+        command: "replay",
+        call: "bridge /var/lib/bridge/logs replay relp < session.relp",
+    },
+    Example {
+        command: "list",
+        call: "bridge /var/lib/bridge/logs list --as json",
+    },
+    Example {
+        command: "drain",
+        call: "bridge /var/lib/bridge/logs drain relp logs.example:2514",
+    },
+    Example {
+        command: "serve",
+        call: "bridge /var/lib/bridge/logs serve --group --relp 127.0.0.1:2514 --forward relp --to logs.example:2514",
+    },
+    Example {
+        command: "load",
+        call: "bridge none load relp 0 1000",
+    },
+    Example {
+        command: "move",
+        call: "bridge /var/lib/bridge/logs move /srv/bridge/logs 0",
+    },
+    Example {
+        command: "skip",
+        call: "bridge /var/lib/bridge/logs skip 81235 >> skipped.json",
+    },
+    Example {
+        command: "rescue",
+        call: "bridge copy rescue > rescued.json",
+    },
+];
+
+/// A call of the command of this name, if it is one.
+pub(crate) fn example_of(command: &str) -> Option<&'static str> {
+    for example in EXAMPLES {
+        if example.command == command {
+            return Some(example.call);
+        }
+    }
+    None
+}
+
 /// The version, as it is printed.
 pub(crate) fn version() -> &'static str {
     VERSION
+}
+
+/// The version without the program's name.
+pub fn version_day() -> &'static str {
+    match VERSION.strip_prefix("bridge ") {
+        Some(day) => day,
+        None => VERSION,
+    }
 }
 
 /// What words may ask for that are no command.

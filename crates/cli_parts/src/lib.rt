@@ -3,7 +3,9 @@
 #![tactic(auto)]
 
 mod arguments;
+mod asked;
 mod backlog;
+mod bytes;
 mod confirming;
 mod digits;
 mod health;
@@ -19,6 +21,7 @@ mod run_options;
 mod seconds;
 mod severity;
 mod shown;
+mod sizes;
 mod skip_words;
 mod standard_error;
 mod starting;
@@ -31,9 +34,11 @@ mod token_words;
 mod unopened;
 
 pub use arguments::{Arguments, NoArguments};
+pub use asked::answer;
 pub use backlog::{Backlog, Batch};
 pub use confirming::confirm;
 pub use health::{Told, Waiting};
+pub use help::version_day;
 pub use making::make_disk;
 pub use memory::keep_freed;
 pub use opening::{Opening, Showing};
@@ -45,6 +50,7 @@ pub use report::{
 pub use rescue_words::{RescueWords, rescue_of};
 pub use run_options::{RunOptions, Taken, Untaken, WrongOption, take_options};
 pub use shown::Shown;
+pub use sizes::with_bytes;
 pub use skip_words::skip_of;
 pub use standard_error::{Host, StandardError};
 pub use starting::print_start;

@@ -31,7 +31,7 @@ const DRAIN: [&str; 6] = [
     "--version",
 ];
 
-const SERVE: [&str; 20] = [
+const SERVE: [&str; 21] = [
     "--relp",
     "--lumberjack",
     "--hec",
@@ -49,6 +49,7 @@ const SERVE: [&str; 20] = [
     "--out-channel",
     "--polls",
     "--idle",
+    "--memory",
     "--quiet",
     "--help",
     "--version",

@@ -165,12 +165,17 @@ impl<D: Disk> Disk for Watched<'_, D> {
 
     fn write_at(&mut self, at: u64, piece: &[u8]) -> Result<(), DiskFault> {
         let outcome = self.disk.write_at(at, piece);
+        if outcome.is_ok() {
+            self.health.wrote(piece.len());
+        }
         self.health.saw(Call::Write, &outcome);
         outcome
     }
 
     fn sync(&mut self) -> Result<(), DiskFault> {
+        let began = self.health.time();
         let outcome = self.disk.sync();
+        self.health.synced(began);
         self.health.saw(Call::Sync, &outcome);
         outcome
     }

@@ -1,13 +1,13 @@
-//! The lines on standard error, and what is printed where words ask for it. A write of them that fails is not reported.
+//! The lines on standard error. A write of them that fails is not reported.
 use crate::arguments::Arguments;
-use crate::help::{Question, question_in, question_of};
 use crate::misspelt::{Misspelt, Named, misspelt_in};
 use crate::rescue_words::{begins_rescue, rescue_of};
 use crate::run_options::WrongOption;
 use crate::skip_words::{begins_skip, skip_of};
 use crate::status::Ending;
-use crate::unopened::{missing_folder, open_text};
+use crate::unopened::missing_folder;
 use bridge_rescue::{Report, SlotFault, Why};
+use bridge_words::{WordsFault, wrong_words};
 use edge_file::OpenFault;
 use notes::{Note, note_text};
 use std::fs::Files;
@@ -100,8 +100,8 @@ pub fn print_rescue(
 }
 
 /// Prints why what the arguments asked for ended, where it didn't end well: the note's text, but of a skip that found no pending entry, or
-/// no room for a stretch more, what that means. Of a rescue it prints nothing: [`print_rescue`] does; nor of a file in use, which has its
-/// own line.
+/// no room for a stretch more, what that means. Of a rescue it prints nothing: [`print_rescue`] does; nor of a file that isn't opened,
+/// which has its own line.
 pub fn print_ending(rt: &(impl AllocGlobal + Eprint), arguments: &Arguments, ending: Ending) {
     let Ending::Noted(note) = ending else {
         return;
@@ -125,14 +125,6 @@ pub fn print_ending(rt: &(impl AllocGlobal + Eprint), arguments: &Arguments, end
     };
 }
 
-// What the program was asked for beside its commands: by the first word that asks.
-fn question_to(arguments: &Arguments) -> Option<Question> {
-    match question_of(&arguments.file) {
-        Some(question) => Some(question),
-        None => question_in(&arguments.words),
-    }
-}
-
 // Prints which name is meant where one of the words is misspelt.
 fn print_near_name(rt: &(impl AllocGlobal + Eprint), arguments: &Arguments) {
     if let Ok(Some(Misspelt { named, word, name })) = misspelt_in(rt.alloc(), arguments) {
@@ -143,8 +135,9 @@ fn print_near_name(rt: &(impl AllocGlobal + Eprint), arguments: &Arguments) {
     }
 }
 
-// Prints what is wrong with words that are no command, and which name is meant where one of them is misspelt.
-fn print_wrong_words(rt: &(impl AllocGlobal + Eprint), arguments: &Arguments) {
+/// Prints what stands beside the usage line: what is wrong with words that are no command, and which name is meant where one of them is
+/// misspelt.
+pub fn print_beside_usage(rt: &(impl AllocGlobal + Eprint), arguments: &Arguments) {
     if begins_skip(&arguments.words) {
         print_line(
             rt,
@@ -155,42 +148,26 @@ fn print_wrong_words(rt: &(impl AllocGlobal + Eprint), arguments: &Arguments) {
             rt,
             "rescue takes nothing, or SLOTS, 1 to 1024, and SIZE, 4096 to 1073741824",
         );
-    } else if let Ok(Some(fault)) = bridge_words::wrong_words(rt.alloc(), &arguments.words) {
-        print_line(rt, fault.text());
+    } else if let Ok(Some(fault)) = wrong_words(rt.alloc(), &arguments.words) {
+        let _ = eprintln!(rt; "bridge: {fault}");
+        if fault == WordsFault::Size {
+            print_line(
+                rt,
+                "SIZE counts bytes; K, M or G after it stands for 1024, 1048576 or 1073741824 of them, as in 64M",
+            );
+        }
     }
     print_near_name(rt, arguments);
 }
 
-/// Prints what stands beside the usage line. Where the program was asked for help or for its version, that is what standard output gets.
-/// Else standard error gets a line that says what is wrong with the words, and where one is misspelt another that says which name is
-/// near it.
-pub fn print_beside_usage(rt: &(impl AllocGlobal + Eprint + Print), arguments: &Arguments) {
-    match question_to(arguments) {
-        Some(question) => {
-            let answer = question.answer();
-            let _ = println!(rt; "{answer}");
-        }
-        None => print_wrong_words(rt, arguments),
-    }
-}
-
-/// The same where an option of the run is wrong: unless help or the version is asked for, standard error gets a line that says which, and
-/// why.
+/// The same where an option of the run is wrong: which, and why.
 pub fn print_beside_wrong_option(
-    rt: &(impl AllocGlobal + Eprint + Print),
+    rt: &(impl AllocGlobal + Eprint),
     arguments: &Arguments,
     wrong: WrongOption,
 ) {
-    match question_to(arguments) {
-        Some(question) => {
-            let answer = question.answer();
-            let _ = println!(rt; "{answer}");
-        }
-        None => {
-            print_line(rt, wrong.text());
-            print_near_name(rt, arguments);
-        }
-    }
+    let _ = eprintln!(rt; "bridge: {wrong}");
+    print_near_name(rt, arguments);
 }
 
 /// Says why the file of this path wasn't opened: that its folder is missing, or the fault.
@@ -201,8 +178,7 @@ pub fn print_unopened(rt: &(impl Files + Eprint), path: &str, fault: OpenFault) 
         let _ = eprintln!(rt; "bridge: {path}: no folder {folder}");
         return;
     }
-    let why = open_text(fault);
-    let _ = eprintln!(rt; "bridge: {path}: {why}");
+    let _ = eprintln!(rt; "bridge: {path}: {fault}");
 }
 
 /// Names the file of this path, where the note says of what stands in it that it is no spool.

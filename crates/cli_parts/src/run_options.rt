@@ -3,11 +3,13 @@
 ghost use Rattle.std.specs.Prelude.{◌≡◌, ◌≤◌, ◌++◌, ◌∷◌, [], Err, IfOk, OnOk, IfErr, length, map, string_bytes};
 ghost use Rattle.cli_parts.specs.declared.run_options.WrongOption.{WrongOption};
 ghost use Rattle.cli_parts.specs.declared.run_options.Untaken.TheVariants.{Wrong, NoMemory};
-ghost use Rattle.cli_parts.specs.RunOptions.{IsNoSeconds, IsWrong, IsWrongNext, TakesIdle, wrong_text};
+ghost use Rattle.cli_parts.specs.RunOptions.{IsNoBytes, IsNoSeconds, IsWrong, IsWrongNext, TakesIdle, TakesMemory, wrong_text};
 ghost use Rattle.cli_parts.specs.Piece.{IsPiece, IsPlain, IsTaken, TakesNext};
 
+use crate::bytes::bytes;
 use crate::seconds::seconds;
 use std::alloc::{AllocError, Global};
+use thiserror::Error;
 
 /// The options of a run.
 #[derive(Clone, Copy, PartialEq, Eq)]
@@ -17,10 +19,14 @@ pub struct RunOptions {
     /// For how many seconds a sender may be silent before its connection is closed, where that is said: 1 to 86,400, by
     /// `--idle SECONDS`.
     pub idle: Option<u64>,
+    /// How many bytes of memory the connections of senders may take, where that is said: 16,777,216 to 8,589,934,592, by
+    /// `--memory BYTES`.
+    pub memory: Option<u64>,
 }
 
 /// Which option of a run is wrong, and why.
-#[derive(Clone, Copy, PartialEq, Eq)]
+#[derive(Clone, Copy, PartialEq, Eq, Debug, Drop, Error)]
+#[error("{}", self.text())]
 pub enum WrongOption {
     /// `--quiet` is given twice.
     QuietTwice,
@@ -34,6 +40,14 @@ pub enum WrongOption {
     IdleNoValue,
     /// SECONDS isn't 1 to 86,400.
     IdleRange,
+    /// `--memory` stands with another command than `serve`.
+    MemoryElsewhere,
+    /// `--memory` is given twice.
+    MemoryTwice,
+    /// `--memory` is the last of the words.
+    MemoryNoValue,
+    /// BYTES isn't 16,777,216 to 8,589,934,592.
+    MemoryRange,
 }
 
 impl WrongOption {
@@ -48,16 +62,26 @@ impl WrongOption {
             WrongOption::IdleTwice => "--idle: given twice; once, 1 to 86400 seconds",
             WrongOption::IdleNoValue => "--idle: no value; 1 to 86400 seconds",
             WrongOption::IdleRange => "--idle: 1 to 86400 seconds",
+            WrongOption::MemoryElsewhere => {
+                "--memory: an option of serve alone, 16777216 to 8589934592 bytes"
+            }
+            WrongOption::MemoryTwice => "--memory: given twice; once, 16777216 to 8589934592 bytes",
+            WrongOption::MemoryNoValue => "--memory: no value; 16777216 to 8589934592 bytes",
+            WrongOption::MemoryRange => {
+                "--memory: 16777216 to 8589934592 bytes; the largest request needs the least of these"
+            }
         }
     }
 }
 
 /// Why no options were taken out of words.
-#[derive(Clone, Copy, PartialEq, Eq)]
+#[derive(Clone, Copy, PartialEq, Eq, Debug, Drop, Error)]
 pub enum Untaken {
     /// One of them is wrong.
+    #[error(transparent)]
     Wrong(WrongOption),
     /// No memory was found.
+    #[error("no memory")]
     NoMemory,
 }
 
@@ -89,6 +113,10 @@ enum Piece<'a> {
     Idle,
     // `--idle` with its value.
     IdleWith(&'a str),
+    // `--memory`, whose value is the next word.
+    Memory,
+    // `--memory` with its value.
+    MemoryWith(&'a str),
     // No option of a run.
     Other,
 }
@@ -104,6 +132,8 @@ fn piece_of(word: &str) -> Piece<'_>
         Piece::QuietWith
     } else if name == "--idle" {
         Piece::IdleWith(value)
+    } else if name == "--memory" {
+        Piece::MemoryWith(value)
     } else {
         Piece::Other
     }
@@ -117,6 +147,8 @@ fn plain_piece(word: &str) -> Piece<'static>
         Piece::Quiet
     } else if word == "--idle" {
         Piece::Idle
+    } else if word == "--memory" {
+        Piece::Memory
     } else {
         Piece::Other
     }
@@ -163,6 +195,26 @@ impl Taken {
         Ok(())
     }
 
+    // Takes the value of `--memory`, among the words of the command of this name.
+    fn take_memory(&mut self, name: &str, value: &str) -> Result<(), WrongOption>
+        ensures memory { OnOk result (TakesMemory name.now value.now self.old.options self.new.options) }
+        ensures words { self.new.words ≡ self.old.words }
+        ensures wrong { IfErr result (λ wrong. IsNoBytes wrong name.now self.old.options value.now) }
+    {
+        let is_server = name == "serve";
+        if !is_server {
+            return Err(WrongOption::MemoryElsewhere);
+        }
+        if self.options.memory.is_some() {
+            return Err(WrongOption::MemoryTwice);
+        }
+        let Some(bytes) = bytes(value) else {
+            return Err(WrongOption::MemoryRange);
+        };
+        self.options.memory = Some(bytes);
+        Ok(())
+    }
+
     // Reads the next word of the command of this name, with the one after it where that is its value, and returns the words after these.
     fn read<'a>(
         &mut self,
@@ -198,6 +250,19 @@ impl Taken {
                     Err(wrong) => Err(Untaken::Wrong(wrong)),
                 }
             }
+            Piece::MemoryWith(value) => match self.take_memory(name, value) {
+                Ok(()) => Ok(more),
+                Err(wrong) => Err(Untaken::Wrong(wrong)),
+            },
+            Piece::Memory => {
+                let [value, left @ ..] = more else {
+                    return Err(Untaken::Wrong(WrongOption::MemoryNoValue));
+                };
+                match self.take_memory(name, value.as_str()) {
+                    Ok(()) => Ok(left),
+                    Err(wrong) => Err(Untaken::Wrong(wrong)),
+                }
+            }
             Piece::Other => {
                 self.keep(alloc, word)?;
                 Ok(more)
@@ -207,7 +272,7 @@ impl Taken {
 }
 
 /// Takes the options of the run out of words, which are the name of a command and then its own words: `--quiet`, and with `serve`
-/// `--idle SECONDS` or `--idle=SECONDS`, each once at most. What is left are the other words, in their order, and all from `--` on.
+/// `--idle SECONDS` or `--idle=SECONDS`, and `--memory` likewise, each once at most. What is left are the other words, in their order, and all from `--` on.
 ///
 /// The error says which is the first option that is wrong, and why, or that no memory was found.
 pub fn take_options(alloc: Global, words: &[String]) -> Result<Taken, Untaken>
@@ -219,6 +284,7 @@ pub fn take_options(alloc: Global, words: &[String]) -> Result<Taken, Untaken>
         options: RunOptions {
             is_quiet: false,
             idle: None,
+            memory: None,
         },
     };
     let [name, rest @ ..] = words else {

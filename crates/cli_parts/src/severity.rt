@@ -7,13 +7,23 @@ use std::{env, fs, str};
 const MOST_NAMED: usize = 41;
 
 // Lines of what goes as it should begin so.
-const INFORMS: [&str; 2] = ["bridge: listening on ", "bridge: bridge "];
+const INFORMS: [&str; 4] = [
+    "bridge: listening on ",
+    "bridge: bridge ",
+    "bridge: run ",
+    "bridge: FILE has room again",
+];
 
-// Lines about a peer begin so: bridge itself goes on.
-const WARNS: [&str; 3] = [
+// A line that says that FILE isn't well ends so.
+const UNTIL_WELL: &str = " until FILE is well again";
+
+// Lines about a peer, and about room, begin so: bridge itself goes on.
+const WARNS: [&str; 5] = [
     "bridge: sender ",
     "bridge: senders at ",
+    "bridge: senders wait ",
     "bridge: receiver ",
+    "bridge: FILE has no room",
 ];
 
 // Other lines about what passes, or is served late, end so.
@@ -27,7 +37,7 @@ const WARNS_LAST: [&str; 4] = [
 /// What stands before a line so that a journal knows how grave it is: `<3>` for an error, `<4>` for a warning, `<6>` for what informs
 /// (sd-daemon(3)).
 pub(crate) fn prefix_of(line: &str) -> &'static str {
-    if line.contains(" is well again") {
+    if line.contains(" is well again") && !line.ends_with(UNTIL_WELL) {
         return "<6>";
     }
     for start in INFORMS {

@@ -16,16 +16,18 @@ pub enum Ending {
     Noted(Note),
     /// FILE, or the TARGET of a move, is in use, so that nothing was done: the same may go well a moment later.
     InUse,
+    /// FILE, or the TARGET of a move, isn't opened, or stays as it is since its user said so. Standard error has a line that says why.
+    Unopened,
 }
 
 impl Ending {
-    /// Why it ended. Where a file is in use it can't be opened, which is a fault of the disk.
+    /// Why it ended. A file that is in use, or isn't opened, is a fault of the disk.
     pub fn note(self) -> Note
         ensures { result ≡ note_in self }
     {
         match self {
             Ending::Noted(note) => note,
-            Ending::InUse => Note::DiskFault,
+            Ending::InUse | Ending::Unopened => Note::DiskFault,
         }
     }
 
@@ -36,6 +38,7 @@ impl Ending {
         match self {
             Ending::Noted(note) => note.status(),
             Ending::InUse => IN_USE,
+            Ending::Unopened => Note::DiskFault.status(),
         }
     }
 }

@@ -14,7 +14,7 @@ use Rattle.json_span.proofs.ObjectLaws.{json_object, object_json}
 use Rattle.event_map.specs.Maps.{HecBy, IsHecObject, OfPairs}
 use Rattle.event_map.specs.Objects.{event_object, pairs_object}
 use Rattle.event_map.specs.Strings.{event_string}
-use Rattle.hec_body.specs.declared.fault.BodyFault.TheVariants.{Format}
+use Rattle.body_faults.specs.declared.fault.BodyFault.TheVariants.{Format}
 use Rattle.hec_body.specs.Events.{BeginsNoObject, BeginsObject, HasEvent, IsBlank, IsEventObject, IsFaultBehind}
 use Rattle.hec_body.specs.Limits.{IsLong, IsShort}
 use Rattle.hec_body.proofs.Front.{object_brace}

@@ -9,7 +9,7 @@ use Rattle.event_form.specs.declared.event.Origin.{Origin}
 use Rattle.event_form.specs.declared.event.Origin.TheVariants.{HecEvent}
 use Rattle.event_map.proofs.Exact.{hec_object_of-is}
 use Rattle.event_map.proofs.Functions.{hec_object_by, hec_object_of}
-use Rattle.hec_body.specs.declared.fault.BodyFault.TheVariants.{Format}
+use Rattle.body_faults.specs.declared.fault.BodyFault.TheVariants.{Format}
 use Rattle.hec_body.specs.Events.{BeginsEvents, BeginsObject, IsEventObject, IsFaultBehind}
 use Rattle.hec_body.specs.Limits.{IsShort}
 use Rattle.hec_sender.specs.Texts.{objects_text}

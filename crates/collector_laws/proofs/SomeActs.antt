@@ -1,8 +1,8 @@
 -- Each request has something to be done for it.
 use Rattle.std.proofs.Common.{◌≡◌, ◌⊎◌, inl, inr, ℕ, List, refl, sym, ap, subst}
 use Rattle.std.specs.Prelude.{map, Some, None, Result, Ok, Err}
-use Rattle.hec_body.specs.declared.fault.BodyFault.{BodyFault}
-use Rattle.hec_body.specs.declared.fault.BodyFault.TheVariants.{NoData, Format, NoEvent, Blank, TooMany, NoMemory}
+use Rattle.body_faults.specs.declared.fault.BodyFault.{BodyFault}
+use Rattle.body_faults.specs.declared.fault.BodyFault.TheVariants.{NoData, Format, NoEvent, Blank, TooMany, NoMemory}
 use Rattle.hec_body.specs.Acks.{AsksFor}
 use Rattle.hec_session.specs.declared.act.HecAct.{HecAct}
 use Rattle.hec_session.specs.declared.act.HecAct.TheVariants.{StoreThenSay, SayThenStore, Ask, Say}

@@ -12,8 +12,8 @@ use Rattle.json_span.proofs.MembersExist.{members_exist}
 use Rattle.json_span.proofs.Stretches.{range_whole}
 use Rattle.event_map.proofs.Deciding.{Decided, same_list, some_up_to}
 use Rattle.event_map.proofs.ObjectOrNot.{object_or_not}
-use Rattle.hec_body.specs.declared.fault.BodyFault.{BodyFault}
-use Rattle.hec_body.specs.declared.fault.BodyFault.TheVariants.{NoData, Format, NoEvent, Blank, TooMany, NoMemory}
+use Rattle.body_faults.specs.declared.fault.BodyFault.{BodyFault}
+use Rattle.body_faults.specs.declared.fault.BodyFault.TheVariants.{NoData, Format, NoEvent, Blank, TooMany, NoMemory}
 use Rattle.hec_body.specs.Events.{BeginsEvents, BeginsNoObject, BeginsObject, FirstEventIs, HasEvent, HasNoEvent, IsBlank, IsCut, IsEventObject, IsFaultBehind, IsNamedEvent, whole_of}
 use Rattle.hec_body.specs.Limits.{IsShort}
 use Rattle.hec_body.proofs.EventLaws.{begins_more, behind_shorter, white, white_passes}

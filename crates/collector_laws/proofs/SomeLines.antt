@@ -10,7 +10,7 @@ use Rattle.serde_json.specs.Data.{Data, Items, array, boolean, float, item, nega
 use Rattle.serde_json.specs.Find.{get}
 use Rattle.serde_json.specs.Read.{read}
 use Rattle.event_map.proofs.Deciding.{Decided}
-use Rattle.hec_body.specs.declared.fault.BodyFault.TheVariants.{NoData, Format, TooMany}
+use Rattle.body_faults.specs.declared.fault.BodyFault.TheVariants.{NoData, Format, TooMany}
 use Rattle.hec_body.specs.Acks.{AsksFor, distinct, numbers}
 use Rattle.hec_body.specs.Limits.{IsShort}
 use Rattle.hec_body.specs.Lines.{IsLineCut, filled_lines}

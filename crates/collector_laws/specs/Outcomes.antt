@@ -4,8 +4,8 @@ use Rattle.event_form.specs.declared.event.Entry.{Entry}
 use Rattle.event_form.specs.declared.event.Event.{Event}
 use Rattle.event_map.proofs.Functions.{hec_object_of}
 use Rattle.http_edge.specs.declared.request.HttpRequest.{HttpRequest}
-use Rattle.hec_body.specs.declared.fault.BodyFault.{BodyFault}
-use Rattle.hec_body.specs.declared.fault.BodyFault.TheVariants.{NoMemory}
+use Rattle.body_faults.specs.declared.fault.BodyFault.{BodyFault}
+use Rattle.body_faults.specs.declared.fault.BodyFault.TheVariants.{NoMemory}
 use Rattle.hec_body.specs.Acks.{AsksFor}
 use Rattle.hec_body.specs.Events.{IsCut}
 use Rattle.hec_body.specs.Lines.{IsLineCut}

@@ -12,7 +12,7 @@ use Rattle.event_map.proofs.Functions.{hec_object_of}
 use Rattle.event_map.specs.Maps.{IsHecObject, OfPairs}
 use Rattle.event_map.specs.Objects.{pairs_object}
 use Rattle.event_map.specs.Strings.{event_string}
-use Rattle.hec_body.specs.declared.fault.BodyFault.TheVariants.{Format}
+use Rattle.body_faults.specs.declared.fault.BodyFault.TheVariants.{Format}
 use Rattle.hec_body.specs.Events.{HasEvent, IsCut}
 use Rattle.hec_body.specs.Limits.{IsLong, IsShort}
 use Rattle.hec_sender.specs.Texts.{objects_text}

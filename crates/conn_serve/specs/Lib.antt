@@ -9,6 +9,7 @@ pub mod RelpServing
 pub mod LumberServing
 pub mod Hec
 pub mod Terms
+pub mod Memory
 pub mod HecServing
 pub mod Serves
 pub mod Says

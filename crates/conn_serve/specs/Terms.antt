@@ -1,5 +1,5 @@
 -- The terms on which a connection is served.
-use Rattle.std.specs.Prelude.{ℕ, Bool, true, false, None, []}
+use Rattle.std.specs.Prelude.{ℕ, nat_lt, if◌then◌else◌, Bool, true, false, None, []}
 use Rattle.hec_session.specs.declared.tokens.Tokens.{Tokens}
 use Rattle.conn_serve.specs.declared.rules.Rules.{Rules}
 
@@ -13,10 +13,11 @@ abbrev pub most_of : Bool → ℕ
 most_of true = 512
 most_of false = 1
 
--- how many bytes a read asks for at most
-abbrev pub piece_of : Bool → ℕ
-piece_of true = 65536
-piece_of false = 8192
+-- How many bytes the next read asks for at most, after one that asked for so many and brought so many: few, unless the events of one
+-- piece are stored as one group and much comes.
+abbrev pub next_piece : Bool → ℕ → ℕ → ℕ
+next_piece false asked came = 8192
+next_piece true asked came = if nat_lt 4096 came then (if nat_lt came asked then asked else 65536) else 8192
 
 -- those of its rules
 abbrev pub terms_of : Rules → Terms

@@ -1,33 +1,61 @@
 //! How a session gets the bytes of its connection.
 ghost use Rattle.std.specs.Prelude.{◌≡◌, ◌⊎◌, ◌+◌, ◌<◌, ◌≤◌, ◌^◌, ℕ, List, ◌++◌, Option, None, length, IfOk, IfErr, OnOk, IsErrOf};
-ghost use Rattle.std.specs.Io.KnownBytes.{Appends, IsAtEnd};
+ghost use Rattle.std.specs.Io.KnownBytes.{Appends, IsAtEnd, ReadConsumes, WriteAppends};
+ghost use Rattle.foundation.specs.Faults.{HasCause};
 ghost use Rattle.desk_access.specs.Endings.{IsAtMove};
 ghost use Rattle.conn_serve.specs.Done.{AreBytes, Done, Leads, LeadsOn, SoFar, Turn, told};
 ghost use Rattle.conn_serve.specs.Endings.{CountsFaults, MayEnd};
 ghost use Rattle.conn_serve.specs.Says.{HasCarried, MaySay};
-ghost use Rattle.conn_serve.specs.Terms.{piece_of};
+ghost use Rattle.conn_serve.specs.Terms.{next_piece};
 
 use crate::connection::Connection;
 use crate::session::Session;
 use desk_access::Access;
-use edge_io::Link;
+use edge_io::{Link, ReadFault};
 use event_form::Talk;
 use std::alloc::{AllocError, Global};
 
 // How many bytes a read asks for at most.
 const PIECE: usize = 8_192;
 
-// How many it asks for where the events that it brings are stored as one group: some 550 events of 100 bytes, where a group has 512 at
-// most.
+// How many it asks for where much comes and the events that it brings are stored as one group: some 550 events of 100 bytes, where a
+// group has 512 at most.
 const LONG_PIECE: usize = 65_536;
 
-/// The memory that the reads of a connection fill, each from its beginning: as many bytes as one asks for at most, by whether the
-/// events that one brings are stored as one group. The only error is want of memory.
-pub fn buffer(alloc: Global, group: bool) -> Result<Vec<u8>, AllocError>
-    ensures { IfOk result (λ buf. length buf.items ≡ piece_of group) }
+// How many bytes a read brings at most after which the next one asks for no more than `PIECE`.
+const SHORT_PIECE: usize = 4_096;
+
+/// The memory that the first reads of a connection fill, each from its beginning. The only error is want of memory.
+pub fn buffer(alloc: Global) -> Result<Vec<u8>, AllocError>
+    ensures { IfOk result (λ buf. length buf.items ≡ 8192) }
 {
-    let len = if group { LONG_PIECE } else { PIECE };
-    vec![in alloc; 0; len]
+    vec![in alloc; 0; PIECE]
+}
+
+// How many bytes the next read asks for at most, after one that asked for `asked` and brought `came`.
+fn next_piece(group: bool, asked: usize, came: usize) -> usize
+    ensures { result ≡ next_piece group asked came }
+{
+    if !group || came <= SHORT_PIECE {
+        PIECE
+    } else if came < asked {
+        asked
+    } else {
+        LONG_PIECE
+    }
+}
+
+/// Fits the memory of reads to what the last one brought, so that a connection which is quiet keeps little of it: it is as long as the
+/// next read asks for, or as before where no memory is found.
+pub fn fit(alloc: Global, buf: &mut Vec<u8>, group: bool, came: usize)
+    ensures { (length buf.new.items ≡ next_piece group (length buf.old.items) came) ⊎ (buf.new.items ≡ buf.old.items) }
+{
+    let len = next_piece(group, buf.len(), came);
+    if len != buf.len()
+        && let Ok(other) = vec![in alloc; 0; len]
+    {
+        *buf = other;
+    }
 }
 
 /// Takes in a piece that was read, to its end: feeds as much of it as there is room for and serves the
@@ -75,6 +103,31 @@ pub fn take_in<L: Link, A: Access, S: Session>(
     Ok(())
 }
 
+// Reads once, as the link does, and claims what memory the session takes: before the read for what it holds, and after it for what it
+// is then fed, of which nothing is served before there is room.
+fn read_next<L: Link, S: Session>(
+    link: &mut L,
+    session: &S,
+    buf: &mut [u8],
+) -> Result<usize, ReadFault>
+    requires some { 0 < length buf.old }
+    ensures bound { IfOk result (λ n. n ≤ length buf.new) }
+    ensures given { WriteAppends (L.given link.old) (L.given link.new) result buf.new }
+    ensures left { ReadConsumes (L.left link.old) (L.left link.new) result buf.new }
+    ensures cause { HasCause (L.read_faults link.old) (L.read_faults link.new) result }
+    ensures same { L.same link.old link.new }
+    ensures apart { L.read_apart link.old link.new }
+{
+    let asked = buf.len();
+    link.claim(session.need(asked, 0));
+    let len = match link.read(buf) {
+        Ok(len) => len,
+        Err(fault) => return Err(fault),
+    };
+    link.claim(session.need(asked, len));
+    Ok(len)
+}
+
 /// Reads once, at most as many bytes as `buf` has, and takes in what came. Answers how many bytes it was; 0 is the
 /// end of the input. `says` is of each piece that the read may bring. The error is the ending of the connection.
 pub fn turn<L: Link, A: Access, S: Session>(
@@ -119,7 +172,7 @@ pub fn turn<L: Link, A: Access, S: Session>(
     ensures same { L.same link.old link.new }
     ensures lasts { L.taken link.old ≡ None → L.taken link.new ≡ None }
 {
-    let len = match link.read(buf) {
+    let len = match read_next(link, session, buf) {
         Ok(len) => len,
         Err(_) => return Err(Talk::ReadFault),
     };

@@ -12,6 +12,7 @@ mod feed;
 mod hec;
 mod laws;
 mod lumberjack;
+mod memory;
 mod relp;
 mod rules;
 mod serve;

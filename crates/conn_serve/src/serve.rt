@@ -7,10 +7,9 @@ ghost use Rattle.conn_serve.specs.Done.{Done, Leads, SoFar};
 ghost use Rattle.conn_serve.specs.Endings.{MayEnd, CountsFaults};
 ghost use Rattle.conn_serve.specs.Says.{HasCarried, MaySay};
 ghost use Rattle.conn_serve.specs.Serves.{CarriedBy, Serves};
-ghost use Rattle.conn_serve.specs.Terms.{piece_of};
 
 use crate::connection::Connection;
-use crate::feed::{buffer, turn};
+use crate::feed::{buffer, fit, turn};
 use crate::hec::session::HecSession;
 use crate::lumberjack::session::LumberSession;
 use crate::relp::session::RelpSession;
@@ -74,16 +73,18 @@ fn close<L: Link, A: Access, S: Session>(
 
 // Serves the connection to its end. The order in which endings are judged stands here: what a frame
 // that waits asks for, then the fault of the bytes, the end of the input, a read that fails, and the
-// most bytes that a connection may have. Each read fills `buf` from its beginning.
+// most bytes that a connection may have. Each read fills `buf` from its beginning; `buf` is fitted to what comes, by whether the events of
+// one piece are stored as one group.
 fn run<L: Link, A: Access, S: Session>(
     alloc: Global,
     link: &mut L,
     access: &mut A,
     connection: &mut Connection,
     session: &mut S,
-    buf: &mut [u8],
+    group: bool,
+    buf: &mut Vec<u8>,
 ) -> Talk
-    requires some { 0 < length buf.old }
+    requires some { 0 < length buf.old.items }
     requires start { S.served connection.old.number session.old [] [] [] }
     requires idle { S.idle session.old }
     requires unfed { S.extent session.old ≡ 0 }
@@ -108,6 +109,7 @@ fn run<L: Link, A: Access, S: Session>(
             Err(talk) => return talk,
         };
         total += len as u64;
+        fit(alloc, buf, group, len);
         if let Some(talk) = over(session, len) {
             return close(link, access, connection, session, talk);
         }
@@ -122,9 +124,9 @@ fn attend_by<L: Link, A: Access>(
     rules: &Rules,
     access: &mut A,
     conn: u64,
-    buf: &mut [u8],
+    buf: &mut Vec<u8>,
 ) -> Attended
-    requires piece { length buf.old ≡ piece_of rules.now.group }
+    requires some { 0 < length buf.old.items }
     requires may { A.may_take access.old conn 0 }
     requires says { (read : L) (bytes : List ℕ) → L.same link.old read → Appends (L.given link.old) (L.given read) bytes
         → MaySay (A.ran access.old) (L.permits read) (L.taken link.old) (HasCarried (CarriedBy rules.now conn) bytes) }
@@ -141,11 +143,27 @@ fn attend_by<L: Link, A: Access>(
     };
     let talk = match rules.proto {
         Proto::Relp => match RelpSession::new(alloc, rules.group) {
-            Ok(mut session) => run(alloc, link, access, &mut connection, &mut session, buf),
+            Ok(mut session) => run(
+                alloc,
+                link,
+                access,
+                &mut connection,
+                &mut session,
+                rules.group,
+                buf,
+            ),
             Err(_) => Talk::NoMemory,
         },
         Proto::Lumberjack => match LumberSession::new(alloc) {
-            Ok(mut session) => run(alloc, link, access, &mut connection, &mut session, buf),
+            Ok(mut session) => run(
+                alloc,
+                link,
+                access,
+                &mut connection,
+                &mut session,
+                rules.group,
+                buf,
+            ),
             Err(_) => Talk::NoMemory,
         },
         Proto::Hec => match HecSession::new(
@@ -154,7 +172,15 @@ fn attend_by<L: Link, A: Access>(
             rules.ack_token,
             rules.listed.share(),
         ) {
-            Ok(mut session) => run(alloc, link, access, &mut connection, &mut session, buf),
+            Ok(mut session) => run(
+                alloc,
+                link,
+                access,
+                &mut connection,
+                &mut session,
+                rules.group,
+                buf,
+            ),
             Err(_) => Talk::NoMemory,
         },
     };
@@ -165,8 +191,8 @@ fn attend_by<L: Link, A: Access>(
 }
 
 /// Serves one connection to its end, by the protocol of the rules. It reads pieces of at most 8,192 bytes, or
-/// of 65,536 where the rules say that events of one piece are stored together, and does what the protocol's
-/// table says for each whole frame, one after another. `conn` is the connection's number in the spool; its
+/// of 65,536 where the rules say that events of one piece are stored together and the pieces before were full, tells
+/// the link what memory that takes, and does what the protocol's table says for each whole frame, one after another. `conn` is the connection's number in the spool; its
 /// entries are counted from 0. Each text is written as one piece. `carried` says which bytes were read, each a
 /// number below 256, which calls were made on the desk, which bytes were written, and how many entries were
 /// taken.
@@ -218,7 +244,7 @@ pub fn attend<L: Link, A: Access>(
     ensures writes { CountsFaults (result.talk ≡ Talk.WriteFault) (L.write_faults link.old) (L.write_faults link.new) }
     ensures same { L.same link.old link.new }
 {
-    let Ok(mut buf) = buffer(alloc, rules.group) else {
+    let Ok(mut buf) = buffer(alloc) else {
         return Attended {
             talk: Talk::NoMemory,
             taken: 0,

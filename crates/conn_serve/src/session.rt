@@ -43,6 +43,14 @@ pub trait Session {
     /// A count of bytes, which is never more than those that it was fed.
     ghost extent: { Self → ℕ };
 
+    /// How many bytes of memory a connection takes at most, where its reads ask for so many bytes, until that many more were served.
+    ghost takes: { Self → ℕ → ℕ → ℕ };
+
+    /// How many bytes of memory the connection takes at most, where its reads ask for `asked` bytes, until all that is held of it and
+    /// `more` bytes after that were served.
+    fn need(&self, asked: usize, more: usize) -> u64
+        ensures { result ≡ takes self.now asked more };
+
     /// Adds as much of the next bytes as there is room for, at least one of them if there are any, and
     /// answers how many. Where they have a fault, it answers that it took them all. It takes no memory.
     fn feed(&mut self, piece: &[u8]) -> usize

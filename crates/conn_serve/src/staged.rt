@@ -6,7 +6,10 @@ use std::alloc::{AllocError, Global};
 
 /// How many bytes the text of an entry has at most whose memory is used again once it is stored. Longer ones
 /// are freed, so that what is kept for a batch stays small.
-const SPARE_BYTES: usize = 1_024;
+const SPARE_BYTES: usize = 256;
+
+/// The memory of how many texts is kept at most.
+const MOST_SPARE: usize = 64;
 
 /// What is staged, and the memory for the texts that are staged next.
 #[derive(Drop)]
@@ -54,7 +57,7 @@ impl Staged {
     {
         while let Some(entry) = self.entries.pop() {
             let bytes = entry.event.text.into_vec();
-            if bytes.len() <= SPARE_BYTES {
+            if bytes.len() <= SPARE_BYTES && self.spare.len() < MOST_SPARE {
                 let _ = self.spare.push(bytes);
             }
         }

@@ -3,3 +3,4 @@ pub mod CountedFile
 pub mod FileDisk
 pub mod Held
 pub mod HeldLaws
+pub mod Unopened

@@ -2,6 +2,7 @@
 use crate::file_id::FileId;
 use std::alloc::AllocError;
 use std::io::{self, ErrorKind};
+use std::rt::Clock;
 
 /// The path by which a file was opened, and which file that was.
 #[derive(Drop)]
@@ -26,6 +27,14 @@ impl Home {
             path: String::from_str(rt.alloc(), path)?,
             id,
         })
+    }
+
+    /// The milliseconds since some moment, or none without a clock.
+    pub(crate) fn millis(&self) -> Option<u64> {
+        match self.rt.monotonic() {
+            Ok(now) => u64::try_from(now.as_millis()).ok(),
+            Err(_) => None,
+        }
     }
 
     /// Whether the file is at its path no more: it was removed or renamed, or another one stands there. Where the system can't say, it is

@@ -1,7 +1,11 @@
 //! Why a file was not opened as a disk, and with whom it is shared.
+ghost use Rattle.std.specs.Prelude.{◌≡◌};
+ghost use Rattle.edge_file.specs.Unopened.{open_text};
+
 use std::alloc::AllocError;
 use std::fs::TryLockError;
 use std::io::{self, ErrorKind};
+use thiserror::Error;
 
 /// Who else may have a file open as a disk while this program has it.
 #[derive(Clone, Copy, PartialEq, Eq)]
@@ -13,7 +17,8 @@ pub enum Sharing {
 }
 
 /// Why a file was not opened as a disk.
-#[derive(Clone, Copy, Debug, PartialEq, Eq)]
+#[derive(Clone, Copy, Debug, PartialEq, Eq, Drop, Error)]
+#[error("{}", self.text())]
 pub enum OpenFault {
     /// There is no file of this name, or no folder to make it in.
     NotFound,
@@ -41,14 +46,43 @@ pub enum OpenFault {
     Other,
 }
 
+impl OpenFault {
+    /// The text for it: one line, without its end.
+    pub fn text(self) -> &'static str
+        ensures { result.now ≡ open_text self }
+    {
+        match self {
+            OpenFault::NotFound => "not found",
+            OpenFault::NotAllowed => "not allowed",
+            OpenFault::IsFolder => "a folder",
+            OpenFault::InUse => "in use",
+            OpenFault::Mounted => "its file system is mounted",
+            OpenFault::Unclaimed => {
+                "/sys/dev/block doesn't show it, so that others can't be kept off it"
+            }
+            OpenFault::NoRoom => "no room on its file system",
+            OpenFault::OverLimit => {
+                "no room: longer than this program may write (ulimit -f, LimitFSIZE=)"
+            }
+            OpenFault::Unsynced => "a sync failed",
+            OpenFault::NoMemory => "no memory",
+            OpenFault::NoFile => "neither a file nor a block device",
+            OpenFault::Other => "can't be opened",
+        }
+    }
+}
+
 /// Why two files were not opened as disks.
-#[derive(Clone, Copy, Debug, PartialEq, Eq)]
+#[derive(Clone, Copy, Debug, PartialEq, Eq, Drop, Error)]
 pub enum PairFault {
     /// The first was not opened, for this reason.
+    #[error(transparent)]
     First(OpenFault),
     /// The second was not.
+    #[error(transparent)]
     Second(OpenFault),
     /// Both names are of one file or one block device.
+    #[error("both names are of one file")]
     OneFile,
 }
 

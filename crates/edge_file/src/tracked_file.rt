@@ -11,6 +11,10 @@ use std::fs::File;
 use std::io::{self, ErrorKind, Seek, SeekFrom};
 use std::os::unix::fs::FileExt;
 
+// How long a look at the file's path lasts, in milliseconds. One costs as much as a short write, and makes the next write cost more: the
+// system then notes a time of the file's change for it.
+const LOOK_MILLIS: u64 = 100;
+
 /// A file of a fixed length, and what was written to it since its last good sync.
 ///
 /// Linux may drop what was written when a sync of it fails: the sync fails once, a read still gives the bytes
@@ -28,6 +32,8 @@ pub(crate) struct TrackedFile {
     unsynced: Unsynced,
     // A sync or a write failed, and what was written hasn't been made good since.
     is_failing: bool,
+    // When its path is looked at again, in milliseconds of its clock.
+    next_look: u64,
     ghost fits: { len < 2 ^ 64 },
 }
 
@@ -49,6 +55,7 @@ impl TrackedFile {
             claim,
             unsynced: Unsynced::new(),
             is_failing: false,
+            next_look: 0,
         }
     }
 
@@ -69,7 +76,7 @@ impl TrackedFile {
     }
 
     /// Writes the piece over the bytes from offset `at` on. Fails where the file has become shorter, since the
-    /// system would make it longer again, and where it is at its path no more.
+    /// system would make it longer again, and where it was at its path no more a tenth of a second ago.
     pub(crate) fn write_at(&mut self, at: u64, piece: &[u8]) -> io::Result<()>
         requires { at + length piece.now ≤ self.old.len }
         ensures len { self.new.len ≡ self.old.len }
@@ -77,12 +84,16 @@ impl TrackedFile {
         ensures noted { OnOk result ((i : ℕ) → at ≤ i → i < at + length piece.now → IsTrue (is_covered self.new.unsynced i)) }
     {
         self.make_good()?;
-        self.look()?;
+        if self.has_gone() {
+            return Err(io::Error::from(ErrorKind::NotFound));
+        }
+        self.look_at_len()?;
         self.note(ByteRange::new(at, piece.len() as u64))?;
         self.write_file(at, piece)
     }
 
-    /// Makes durable what was written. Fails where the file is at its path no more: what is durable in it then is gone with this program.
+    /// Makes durable what was written. Fails where the file was at its path no more a tenth of a second ago: what is durable in it then is
+    /// gone with this program.
     pub(crate) fn sync(&mut self) -> io::Result<()>
         ensures len { self.new.len ≡ self.old.len }
         ensures good { OnOk result (self.new.is_failing ≡ false) }
@@ -93,7 +104,7 @@ impl TrackedFile {
         if self.is_failing {
             return self.write_back_all();
         }
-        if self.home.is_left() {
+        if self.has_gone() {
             self.is_failing = true;
             return Err(io::Error::from(ErrorKind::NotFound));
         }
@@ -123,7 +134,10 @@ impl TrackedFile {
         ensures failing { OnErr result (self.new.is_failing ≡ true) }
         ensures kept { OnErr result (self.new.unsynced ≡ self.old.unsynced) }
     {
-        self.look()?;
+        if self.home.is_left() {
+            return Err(io::Error::from(ErrorKind::NotFound));
+        }
+        self.look_at_len()?;
         for range in self.unsynced.ranges() {
             write_back(&self.file, *range)?;
         }
@@ -172,13 +186,27 @@ impl TrackedFile {
         synced
     }
 
-    // Fails where the file has become shorter, or is at its path no more.
-    fn look(&mut self) -> io::Result<()>
+    // Whether the file was at its path no more as it was looked last, a tenth of a second ago at most. Without a clock it is looked now.
+    fn has_gone(&mut self) -> bool
+        ensures { self.new ≡ record self.old { next_look = self.new.next_look } }
+    {
+        let now = self.home.millis();
+        if let Some(now) = now
+            && now < self.next_look
+        {
+            return false;
+        }
+        if self.home.is_left() {
+            return true;
+        }
+        self.next_look = now.unwrap_or(0).saturating_add(LOOK_MILLIS);
+        false
+    }
+
+    // Fails where the file has become shorter.
+    fn look_at_len(&mut self) -> io::Result<()>
         ensures { self.new ≡ record self.old { file = self.new.file } }
     {
-        if self.home.is_left() {
-            return Err(io::Error::from(ErrorKind::NotFound));
-        }
         if end_of(&mut self.file)? < self.len {
             return Err(io::Error::from(ErrorKind::UnexpectedEof));
         }

@@ -23,6 +23,13 @@ source_of link = link.source
 abbrev pub sink_of : MemLink → MemSink
 sink_of link = link.sink
 
+-- how many bytes of memory its connection claimed last, and at most
+abbrev pub claimed_of : MemLink → ℕ
+claimed_of link = link.claimed
+
+abbrev pub most_claimed_of : MemLink → ℕ
+most_claimed_of link = link.most_claimed
+
 -- nothing was read from it or written to it
 pub record IsUnused (link : MemLink) : Type 0 where
   pub given : given_of (source_of link) ≡ []

@@ -6,7 +6,7 @@ ghost use Rattle.edge_io.specs.Counts.{Gains};
 ghost use Rattle.edge_io.specs.Told.{IsToldAs, IsFresh, Adds};
 ghost use Rattle.edge_io.specs.Door.{DoorState, TakesLink, SameLinks, SameTalks, SameDoor, IsTalk, StaysPermitted};
 
-use crate::{Link, Proto};
+use crate::{Link, Proto, Shortage};
 use std::alloc::AllocError;
 
 /// An accept failed. The door's own count of faults says how often that was; an accept that doesn't
@@ -44,7 +44,8 @@ pub trait Door {
         ensures cause { HasCause (told self.old).accept_faults (told self.new).accept_faults result };
 
     /// Takes a link that was served, of which `proto` is the protocol, `conn` the connection's number and
-    /// `status` the status of its ending, and lets it go. One connection more is told: these three, the bytes
+    /// `status` the status of its ending, and lets it go. `shortage` is what lacked, where it ended since an event could not be stored and
+    /// nothing had failed. One connection more is told: these three, the bytes
     /// that the link has given and taken, and how many it has left. The link's faults are added to the
     /// door's counts. The error is want of memory: the link is gone and its faults are counted, but the
     /// list that is told is as before.
@@ -54,6 +55,7 @@ pub trait Door {
         proto: Proto,
         conn: u64,
         status: u8,
+        shortage: Option<Shortage>,
     ) -> Result<(), AllocError>
         ensures adds { OnOk result (Adds (told self.old).talks (told self.new).talks
             (IsTalk proto conn status (Self.L.given link) (Self.L.taken link) (Self.L.left link))) }

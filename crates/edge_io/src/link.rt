@@ -3,11 +3,19 @@ ghost use Rattle.std.specs.Prelude.{◌≡◌, ℕ, List, Option};
 
 use crate::{Sink, Source};
 
-/// A source and a sink in one, as a connection is. It adds no call: it says that neither way meets the
-/// other.
+/// A source and a sink in one, as a connection is. It says that neither way meets the other, and has one call of its own, by which a
+/// connection tells how much memory it takes.
 pub trait Link: Source + Sink {
     /// The place at which it was dialed, where it tells it. A link that was accepted tells none.
     ghost dialed: { Self → Option (List ℕ) };
+
+    /// Tells how many bytes of memory the connection takes at most, with what is done for the bytes that were read of it, until it tells
+    /// another number. Where that is more than before it may wait until there is room for them. Of what the link tells nothing changes.
+    fn claim(&mut self, bytes: u64)
+        ensures same { Self.same self.old self.new }
+        ensures reads { Self.read_apart self.old self.new }
+        ensures writes { Self.write_apart self.old self.new }
+    {}
 
     /// A read leaves what the sink tells as it was, and the place.
     ghost reads_keep: { (x y : Self) → Self.read_apart x y

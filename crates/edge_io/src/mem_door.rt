@@ -5,7 +5,7 @@ ghost use Rattle.std.specs.VecDeque.{deque_len};
 ghost use Rattle.edge_io.specs.MemLink.{is_unused};
 
 use crate::script::Script;
-use crate::{AcceptFault, Door, MemLink, Proto};
+use crate::{AcceptFault, Door, MemLink, Proto, Shortage};
 use std::alloc::{AllocError, Global};
 use std::collections::VecDeque;
 
@@ -136,6 +136,7 @@ impl Door for MemDoor {
         proto: Proto,
         conn: u64,
         status: u8,
+        _: Option<Shortage>,
     ) -> Result<(), AllocError>
         ensures adds { OnOk result (Adds (state_of self.old).talks (state_of self.new).talks
             (IsTalk proto conn status (Some (given_of (source_of link))) (Some (taken_of (sink_of link)))

@@ -10,6 +10,9 @@ pub struct MemLink {
     place: Option<String>,
     source: MemSource,
     sink: MemSink,
+    // How many bytes of memory its connection claimed last, and how many at most.
+    claimed: u64,
+    most_claimed: u64,
 }
 
 /// What became of a link that was let go.
@@ -32,7 +35,7 @@ pub(crate) struct Used {
 impl MemLink {
     ghost use Rattle.std.specs.Prelude.{Some, None};
     ghost use Rattle.std.specs.String.{string_bytes};
-    ghost use Rattle.edge_io.specs.MemLink.{place_of, source_of, sink_of, IsUsed};
+    ghost use Rattle.edge_io.specs.MemLink.{claimed_of, most_claimed_of, place_of, source_of, sink_of, IsUsed};
 
     /// A link of the two, which was not dialed.
     pub fn of(source: MemSource, sink: MemSink) -> MemLink
@@ -44,6 +47,8 @@ impl MemLink {
             place: None,
             source,
             sink,
+            claimed: 0,
+            most_claimed: 0,
         }
     }
 
@@ -57,7 +62,23 @@ impl MemLink {
             place: Some(place),
             source,
             sink,
+            claimed: 0,
+            most_claimed: 0,
         }
+    }
+
+    /// How many bytes of memory its connection claimed last; none before it claimed some.
+    pub fn claimed(&self) -> u64
+        ensures { result ≡ claimed_of self.now }
+    {
+        self.claimed
+    }
+
+    /// How many bytes of memory its connection claimed at most.
+    pub fn most_claimed(&self) -> u64
+        ensures { result ≡ most_claimed_of self.now }
+    {
+        self.most_claimed
     }
 
     /// Lets the link go, and says what became of it.
@@ -68,6 +89,8 @@ impl MemLink {
             place,
             source,
             sink,
+            claimed: _,
+            most_claimed: _,
         } = self;
         let left = source.left();
         let read_faults = source.faults();
@@ -162,9 +185,21 @@ impl Sink for MemLink {
 }
 
 impl Link for MemLink {
-    ghost use Rattle.edge_io.specs.MemLink.{place_of};
+    ghost use Rattle.std.specs.Prelude.{max};
+    ghost use Rattle.edge_io.specs.MemLink.{claimed_of, most_claimed_of, place_of, source_of, sink_of};
 
     ghost dialed = { λ link. place_of link };
+
+    /// Notes what is claimed.
+    fn claim(&mut self, bytes: u64)
+        ensures reads { (sink_of self.new ≡ sink_of self.old) × (place_of self.new ≡ place_of self.old) }
+        ensures writes { (source_of self.new ≡ source_of self.old) × (place_of self.new ≡ place_of self.old) }
+        ensures claimed { claimed_of self.new ≡ bytes }
+        ensures most { most_claimed_of self.new ≡ max (most_claimed_of self.old) bytes }
+    {
+        self.claimed = bytes;
+        self.most_claimed = self.most_claimed.max(bytes);
+    }
 
     ghost reads_keep = { λ x y same. (Prim.cc, Prim.cc, Prim.cc) };
 

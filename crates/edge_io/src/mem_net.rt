@@ -193,6 +193,8 @@ impl Net for MemNet {
 
     ghost may_dial = { λ _. Unit {0} };
 
+    ghost may_report = { λ _ _. Unit {0} };
+
     ghost permits = { λ _ _ _ _ _. Unit {0} };
 
     ghost has_room = { λ net. has_room_for_one net };

@@ -3,6 +3,7 @@ ghost use Rattle.std.specs.Prelude.{◌≡◌, ℕ, List, Some, IfOk, OnOk, leng
 ghost use Rattle.edge_io.specs.Counts.{Gains};
 ghost use Rattle.edge_io.specs.Told.{IsFresh, IsDialed};
 ghost use Rattle.edge_io.specs.Door.{IsNewDoor};
+ghost use Rattle.edge_io.specs.declared.held_up.HeldUp.{HeldUp};
 ghost use Rattle.edge_io.specs.Net.{NetState, AddsBound, SameHung, HasNetCause, AddsHung, IsHungUp};
 
 use crate::{Door, HeldUp, Link, Monitor, NetFault, Pause};
@@ -27,6 +28,9 @@ pub trait Net: Pause {
 
     /// That place may be dialed.
     ghost may_dial: { List ℕ → Type 0 };
+
+    /// That may be reported of the forwarding to that place.
+    ghost may_report: { List ℕ → HeldUp → Type 0 };
 
     /// What may be written to a link that came in at that place: by the number of its door among those that were bound there
     /// together, the number of the link at its door, both from 0, and by what was read from it.
@@ -91,6 +95,7 @@ pub trait Net: Pause {
 
     /// Reports, to whoever looks after the net, what holds up the forwarding to that place. It changes nothing that the net tells.
     fn report_held_up(&mut self, place: &str, held_up: &HeldUp)
+        requires reported { may_report place.now held_up.now }
         ensures same { Self.same self.old self.new }
         ensures apart { Self.pause_apart self.old self.new };
 

@@ -1,4 +1,5 @@
 pub mod Answer
+pub mod Budget
 pub mod Fullness
 pub mod Pace
 pub mod Page

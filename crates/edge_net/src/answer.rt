@@ -52,6 +52,33 @@ fn frame_code(bytes: &[u8]) -> Option<u16> {
     code_of(after_number(length)?)
 }
 
+// What stands before the number of a reply's reason in its body.
+const REASON: &[u8] = b"\"code\":";
+
+// The number that the bytes begin with.
+fn number_at(bytes: &[u8]) -> u16 {
+    let mut number = 0u16;
+    for byte in bytes {
+        if !byte.is_ascii_digit() {
+            break;
+        }
+        let digit = u16::from(byte.saturating_sub(b'0'));
+        number = number.saturating_mul(10).saturating_add(digit);
+    }
+    number
+}
+
+/// The number by which a reply of the collector says why it refuses ("Troubleshoot HTTP Event Collector", possible error codes), where its
+/// body has one.
+pub(crate) fn reason_in(reply: &[u8]) -> Option<u16> {
+    for at in 0..reply.len() {
+        if let Some(number) = reply[at..].strip_prefix(REASON) {
+            return Some(number_at(number));
+        }
+    }
+    None
+}
+
 impl Answer {
     /// The answer that the bytes begin with, where that can be told.
     pub fn at(bytes: &[u8]) -> Option<Answer> {

@@ -4,7 +4,7 @@ ghost use Rattle.std.specs.Prelude.{◌≡◌};
 use crate::accepting::next_connection;
 use crate::roll::{Place, Roll};
 use crate::{Reports, TcpLink, Waits};
-use edge_io::{AcceptFault, Door, Proto};
+use edge_io::{AcceptFault, Door, Proto, Shortage};
 use std::alloc::AllocError;
 use std::io;
 use std::net::{SocketAddr, TcpListener, TcpStream};
@@ -105,6 +105,8 @@ impl<'a, R: Clock + Eprint> Door for TcpDoor<'a, R> {
     /// where its peer went before it was accepted, or want of descriptors or memory; standard error says so, once a minute at
     /// most for a place. An error that lasts is a fault: the socket can't accept.
     ///
+    /// What was accepted is given once there is room for the memory that each connection takes.
+    ///
     /// The first accept waits until all doors of the net have begun, for three seconds at most, and then reports the places
     /// of those that have not: the system refused them a thread.
     fn accept(&mut self) -> Result<Option<TcpLink<'a, R>>, AcceptFault> {
@@ -116,6 +118,7 @@ impl<'a, R: Clock + Eprint> Door for TcpDoor<'a, R> {
             Ok((stream, peer)) => {
                 let (rt, reports) = (self.shared.rt, self.shared.reports);
                 let waits = self.shared.waits;
+                reports.budget().admit(rt, reports.is_quiet());
                 Ok(Some(TcpLink::accepted(rt, reports, stream, peer, waits)))
             }
             Err(_) => {
@@ -135,11 +138,12 @@ impl<'a, R: Clock + Eprint> Door for TcpDoor<'a, R> {
         proto: Proto,
         _: u64,
         status: u8,
+        shortage: Option<Shortage>,
     ) -> Result<(), AllocError> {
         self.read_errors = self.read_errors.saturating_add(link.read_errors());
         self.write_errors = self.write_errors.saturating_add(link.write_errors());
-        self.shared.place.connections.end(proto, status);
-        link.close_served(self.shared.rt, proto, status);
+        self.shared.place.connections.end(proto, status, shortage);
+        link.close_served(self.shared.rt, proto, status, shortage);
         Ok(())
     }
 }

@@ -6,16 +6,20 @@
 #![tactic(auto)]
 
 mod accepting;
+mod ages;
 mod answer;
 mod asker;
 mod asking;
+mod budget;
 mod closing;
 mod counts;
 mod door;
+mod file_counts;
 mod fullness;
 mod hindrance;
 mod illness;
 mod link;
+mod manager;
 mod monitor;
 mod net;
 mod pace;
@@ -34,10 +38,13 @@ mod watch;
 
 pub use accepting::next_connection;
 pub use answer::Answer;
+pub use budget::{Budget, LEAST_MEMORY, Part, STANDARD_MEMORY, most_of, part_of};
 pub use door::TcpDoor;
+pub use file_counts::FileCounts;
 pub use fullness::Fullness;
 pub use illness::Illness;
 pub use link::{LinkSettings, TcpLink};
+pub use manager::Manager;
 pub use monitor::TcpMonitor;
 pub use net::TcpNet;
 pub use pace::Pace;

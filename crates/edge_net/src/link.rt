@@ -1,11 +1,12 @@
 //! A connection over TCP.
 ghost use Rattle.std.specs.Prelude.{◌≡◌, ◌≤◌, length, IfOk};
 
+use crate::budget::{Budget, Part, part_of};
 use crate::closing::close_after_peer;
 use crate::trouble::{Way, is_reset};
 use crate::watch::Watch;
 use crate::{Reports, Waits};
-use edge_io::{Link, Object, Proto, ReadFault, Sink, Source, WriteFault};
+use edge_io::{Link, Object, Proto, ReadFault, Shortage, Sink, Source, WriteFault};
 use std::io::{self, ErrorKind, Read, Write};
 use std::net::{SocketAddr, TcpStream};
 use std::rt::Clock;
@@ -14,6 +15,9 @@ use std::time::Duration;
 // How many times a call is made, where signals interrupt it each time.
 const MOST_TRIES: u32 = 1_000;
 
+// How long a sender may be silent whose connection takes much memory while another one waits for some, in seconds.
+const TURN_SECONDS: u64 = 10;
+
 /// A connection over TCP, that was dialed or accepted. It counts its errors and tells no bytes; standard error says what befell it
 /// ([`Reports`]). The link may be read and written by another thread than the one that made it.
 #[derive(Drop)]
@@ -21,6 +25,12 @@ pub struct TcpLink<'a, R> {
     place: Option<String>,
     stream: TcpStream,
     watch: Watch<'a, R>,
+    rt: &'a R,
+    reports: &'a Reports,
+    // What memory it takes beside that which each connection takes that was accepted.
+    part: Part,
+    // How long a read or a write waits for the peer.
+    wait: Duration,
     // The receiver has broken the connection off while it was written to. What it sent before can still be read.
     is_gone: bool,
     read_errors: u64,
@@ -48,6 +58,8 @@ impl<'a, R> TcpLink<'a, R> {
     // back until more is written; where the system doesn't grant that, the link is slower and else the same. The system grants a
     // wait above 0 to any socket.
     fn over(
+        rt: &'a R,
+        reports: &'a Reports,
         stream: TcpStream,
         place: Option<String>,
         wait: Duration,
@@ -63,6 +75,10 @@ impl<'a, R> TcpLink<'a, R> {
             place,
             stream,
             watch,
+            rt,
+            reports,
+            part: Part::Nothing,
+            wait,
             is_gone: false,
             read_errors: 0,
             write_errors: 0,
@@ -81,7 +97,7 @@ impl<'a, R> TcpLink<'a, R> {
         ensures place { place_of result ≡ None }
     {
         let watch = Watch::of(rt, reports, Some(peer), waits.accepted);
-        TcpLink::over(stream, None, waits.accepted, watch)
+        TcpLink::over(rt, reports, stream, None, waits.accepted, watch)
     }
 
     /// The link of a connection that was dialed at that place.
@@ -96,7 +112,7 @@ impl<'a, R> TcpLink<'a, R> {
         ensures place { place_of result ≡ Some (string_bytes place) }
     {
         let watch = Watch::of(rt, reports, None, waits.dialed);
-        TcpLink::over(stream, Some(place), waits.dialed, watch)
+        TcpLink::over(rt, reports, stream, Some(place), waits.dialed, watch)
     }
 
     /// What the system has set for the link's socket. The error is the system's.
@@ -123,12 +139,48 @@ impl<'a, R> TcpLink<'a, R> {
     }
 }
 
+impl<R> TcpLink<'_, R> {
+    // How long a call of the system waits for the peer: as long as the link does, or a turn of that where it takes much memory.
+    fn turn(&self) -> Duration {
+        match self.part {
+            Part::Many(_) => self.wait.min(Duration::from_secs(TURN_SECONDS)),
+            _ => self.wait,
+        }
+    }
+
+    // How many turns a read waits.
+    fn turns(&self) -> u64 {
+        match self.part {
+            Part::Many(_) => (self.wait.as_secs() / TURN_SECONDS).max(1),
+            _ => 1,
+        }
+    }
+
+    // Notes that a read waited that many turns, where they are none of as long as the link waits.
+    fn note_turns(&mut self, waited: u64)
+        ensures errors { (self.new.read_errors ≡ self.old.read_errors) × (self.new.write_errors ≡ self.old.write_errors) }
+        ensures place { self.new.place ≡ self.old.place }
+    {
+        if let Part::Many(_) = self.part {
+            let seconds = self.turn().as_secs().saturating_mul(waited);
+            self.watch.waited(Duration::from_secs(seconds));
+        }
+    }
+
+    // Has the system wait for the peer as long as one turn takes. Where it doesn't grant that, a call waits as long as before.
+    fn wait_in_turns(&self) {
+        let _ = self.stream.set_read_timeout(Some(self.turn()));
+    }
+}
+
 impl<R: Clock + Eprint> TcpLink<'_, R> {
     /// Says how the connection ended, where that isn't well: it was served to its end by this protocol, and the exit status that
-    /// stands for its ending is this one. Then closes it so that its peer gets what was written last. What the peer still sends
+    /// stands for its ending is this one, and this lacked then, if anything did. Then gives its memory back, and closes it so that its peer
+    /// gets what was written last. What the peer still sends
     /// meanwhile is dropped, and counts as unread.
-    pub(crate) fn close_served(self, rt: &R, proto: Proto, status: u8) {
-        self.watch.ended(proto, status);
+    pub(crate) fn close_served(self, rt: &R, proto: Proto, status: u8, shortage: Option<Shortage>) {
+        self.watch.ended(proto, status, shortage);
+        self.reports.budget().dismiss(self.part);
         close_after_peer(rt, self.stream)
     }
 
@@ -160,6 +212,34 @@ fn read_on(stream: &mut TcpStream, buf: &mut [u8]) -> io::Result<usize>
         }
     }
     stream.read(buf)
+}
+
+// Whether a read waited for its peer in vain.
+fn is_silence(outcome: &io::Result<usize>) -> bool {
+    match outcome {
+        Err(error) => matches!(error.kind(), ErrorKind::WouldBlock | ErrorKind::TimedOut),
+        Ok(_) => false,
+    }
+}
+
+// A read of the stream, which waits in vain that often at most; but only once while a connection waits for memory. It gives how often it
+// waited with what came of it.
+fn read_patiently(
+    stream: &mut TcpStream,
+    budget: &Budget,
+    times: u64,
+    buf: &mut [u8],
+) -> (u64, io::Result<usize>)
+    ensures bound { IfOk result.1 (λ n. n ≤ length buf.new) }
+    ensures len { length buf.new ≡ length buf.old }
+{
+    for time in 1..times {
+        let outcome = read_on(stream, buf);
+        if !is_silence(&outcome) || budget.is_wanted() {
+            return (time, outcome);
+        }
+    }
+    (times, read_on(stream, buf))
 }
 
 // A write to the stream, which is tried again where a signal interrupts it.
@@ -201,9 +281,11 @@ impl<R: Clock + Eprint> Source for TcpLink<'_, R> {
 
     /// A read of the socket, which waits for the peer for as long as the link's bound. The end of input is the peer's: it has shut
     /// its side. A call that a signal interrupts is made again, up to 1,000 times. Each other error is a fault, and so is a wait in
-    /// vain.
+    /// vain. It waits for ten seconds at most where the connection takes more memory than a short read needs, and another one waits for some.
     fn read(&mut self, buf: &mut [u8]) -> Result<usize, ReadFault> {
-        match read_on(&mut self.stream, buf) {
+        let times = self.turns();
+        let (waited, outcome) = read_patiently(&mut self.stream, self.reports.budget(), times, buf);
+        match outcome {
             Ok(n) => {
                 if !buf.is_empty() {
                     self.watch.saw_read(text_of(&self.place), &buf[..n]);
@@ -212,6 +294,7 @@ impl<R: Clock + Eprint> Source for TcpLink<'_, R> {
             }
             Err(error) => {
                 self.read_errors = self.read_errors.saturating_add(1);
+                self.note_turns(waited);
                 self.watch.saw_error(text_of(&self.place), &error, Way::In);
                 Err(ReadFault)
             }
@@ -250,7 +333,7 @@ impl<R: Clock + Eprint> Sink for TcpLink<'_, R> {
         }
         match write_on(&mut self.stream, piece) {
             Ok(n) if n > 0 || piece.is_empty() => {
-                self.watch.saw_write(piece);
+                self.watch.saw_write(piece, n);
                 Ok(n)
             }
             Err(error) if self.place.is_some() && is_reset(error.kind()) => {
@@ -272,6 +355,25 @@ impl<R: Clock + Eprint> Link for TcpLink<'_, R> {
     ghost use Rattle.edge_net.specs.TcpLink.{place_of};
 
     ghost dialed = { λ link. place_of link };
+
+    /// Takes the memory of the budget that all share, where the link was accepted, and waits until there is room for it.
+    fn claim(&mut self, bytes: u64) {
+        if self.place.is_some() {
+            return;
+        }
+        let part = part_of(bytes);
+        if part != self.part {
+            let (rt, reports) = (self.rt, self.reports);
+            reports
+                .budget()
+                .exchange(rt, self.part, part, reports.is_quiet());
+            let before = self.turn();
+            self.part = part;
+            if self.turn() != before {
+                self.wait_in_turns();
+            }
+        }
+    }
 
     ghost reads_keep = { λ x y same. (Prim.cc, same.0, same.1) };
 

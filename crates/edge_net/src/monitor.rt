@@ -3,10 +3,11 @@ ghost use Rattle.std.specs.Prelude.{◌≡◌};
 ghost use Rattle.edge_net.specs.Page.{health_status, health_line};
 
 use crate::Reports;
+use crate::ages::Ages;
 use crate::asker::Asker;
 use crate::asking::Asked;
 use crate::fullness::Fullness;
-use crate::page::page;
+use crate::page::{Glance, page};
 use crate::roll::Roll;
 use crate::since::millis;
 use crate::telling::Reply;
@@ -23,6 +24,9 @@ const WAIT_MILLIS: u64 = 50;
 
 const SHORT_WAIT_MILLIS: u64 = 10;
 
+// How long it takes until the numbers are looked at again, also where nobody asks, in milliseconds.
+const LOOK_MILLIS: u64 = 1_000;
+
 // How many are connected at most.
 const MOST_ASKERS: usize = 64;
 
@@ -33,6 +37,9 @@ const NUMBERS: &str = "text/plain; version=0.0.4; charset=utf-8";
 /// `/health` is answered by 200, or by 503 while the spool is full or calls of FILE fail. Each connection gets one answer. Up to 64 may be
 /// connected; who has asked is answered before those whose requests are still to come, and for one more the first that has not asked is
 /// closed.
+///
+/// Once a second it asks for the numbers itself, to see when entries come, and whether there is room: a line on standard error says where
+/// the spool is full, and once it isn't any more; the first look's says what is pending.
 #[derive(Drop)]
 pub struct TcpMonitor<'a, R> {
     alloc: Global,
@@ -42,6 +49,14 @@ pub struct TcpMonitor<'a, R> {
     // It doesn't wait.
     listener: TcpListener,
     fullness: Fullness,
+    // When the run began, in seconds since 1970.
+    began: u64,
+    // When the pending entries were first seen.
+    ages: Ages,
+    // From when on the numbers are to be looked at, in milliseconds of the clock; `None`: they never were.
+    next_look: Option<u64>,
+    // The spool was full at the last look.
+    was_full: bool,
     // Those who are connected, who came first at first.
     askers: Vec<Asker>,
     // Somebody of them asks for numbers.
@@ -73,14 +88,15 @@ fn health(disk_fails: bool, is_full: bool) -> (&'static str, &'static str)
 }
 
 impl<'a, R> TcpMonitor<'a, R> {
-    /// A monitor over the socket, whom nobody has asked. The places are those of the net that lends the reports. The error is the
-    /// system's, of the call after which the socket doesn't wait.
+    /// A monitor over the socket, whom nobody has asked, of a run that began at that time, in seconds since 1970. The places are those of
+    /// the net that lends the reports. The error is the system's, of the call after which the socket doesn't wait.
     pub(crate) fn over(
         alloc: Global,
         rt: &'a R,
         reports: &'a Reports,
         roll: Arc<Roll>,
         listener: TcpListener,
+        began: u64,
     ) -> io::Result<TcpMonitor<'a, R>> {
         listener.set_nonblocking(true)?;
         Ok(TcpMonitor {
@@ -90,6 +106,10 @@ impl<'a, R> TcpMonitor<'a, R> {
             roll,
             listener,
             fullness: Fullness::new(),
+            began,
+            ages: Ages::none(alloc),
+            next_look: None,
+            was_full: false,
             askers: Vec::new(alloc),
             is_asked: false,
         })
@@ -137,62 +157,62 @@ impl<'a, R> TcpMonitor<'a, R> {
     }
 }
 
-impl<R: Clock> TcpMonitor<'_, R> {
+impl<R: Clock + Eprint> TcpMonitor<'_, R> {
     // The page of numbers.
-    fn page(&self, numbers: &SpoolNumbers, is_full: bool) -> Result<String, AllocError> {
+    fn page(&self, numbers: &SpoolNumbers, is_full: bool, now: u64) -> Result<String, AllocError> {
         let counts = self.reports.counts();
-        let disk_fails = counts.disk.seconds(self.rt).unwrap_or(0);
-        let receiver_fails = counts.receiver.seconds(self.rt).unwrap_or(0);
-        page(
-            self.alloc,
+        let glance = Glance {
             numbers,
             is_full,
+            version: self.reports.version(),
+            began: self.began,
+            oldest: self.ages.oldest(now),
             counts,
-            &self.roll,
-            disk_fails,
-            receiver_fails,
-        )
-    }
-}
-
-impl<R: Clock> Monitor for TcpMonitor<'_, R> {
-    ghost may_tell = { λ _. Unit {0} };
-
-    /// Lets in those who connect, and reads what has come of their requests. Where nobody asks for numbers, it sleeps: for a twentieth of a
-    /// second, or a hundredth where somebody is connected. Who asks for something else is answered at once. The head of a request has a
-    /// second and a half to come.
-    fn is_asked(&mut self) -> bool {
-        let now = millis(self.rt).unwrap_or(u64::MAX);
-        self.admit(now);
-        self.look(now);
-        if !self.is_asked {
-            let wait = if self.askers.is_empty() {
-                WAIT_MILLIS
-            } else {
-                SHORT_WAIT_MILLIS
-            };
-            thread::sleep(self.rt, Duration::from_millis(wait));
-        }
-        self.is_asked
+            budget: self.reports.budget(),
+            roll: &self.roll,
+            disk_fails: counts.file.failing.seconds(self.rt).unwrap_or(0),
+            receiver_fails: counts.receiver.seconds(self.rt).unwrap_or(0),
+        };
+        page(self.alloc, &glance)
     }
 
-    /// Answers all who ask for numbers.
-    fn tell(&mut self, numbers: &SpoolNumbers) {
-        if !self.is_asked {
-            return;
+    // Whether the numbers are to be looked at.
+    fn is_due(&self, now: u64) -> bool {
+        match self.next_look {
+            Some(due) => due <= now,
+            None => true,
         }
-        self.is_asked = false;
-        let now = millis(self.rt).unwrap_or(u64::MAX);
+    }
+
+    // Looks at the numbers, and says what is pending at the first look, and whether the spool is full where that changed. Whether it is full.
+    fn look_at(&mut self, numbers: &SpoolNumbers, now: u64) -> bool {
         let is_full = self.fullness.look(numbers, self.roll.without_room());
-        let disk_fails = self.reports.counts().disk.seconds(self.rt).is_some();
-        let (status, line) = health(disk_fails, is_full);
-        let page = self.page(numbers, is_full);
+        self.ages.look(numbers, now);
+        if self.next_look.is_none() {
+            self.reports.begins(self.rt, numbers);
+        }
+        if is_full != self.was_full {
+            self.reports.fills(self.rt, is_full);
+        }
+        self.was_full = is_full;
+        self.next_look = Some(now.saturating_add(LOOK_MILLIS));
+        is_full
+    }
+
+    // Answers all who ask for numbers, with this page, or none where no memory was found for it, and this about the health.
+    fn answer_all(
+        &mut self,
+        page: &Result<String, AllocError>,
+        health: (&'static str, &'static str),
+        now: u64,
+    ) {
+        let (status, line) = health;
         for asker in &mut self.askers {
             let Some(request) = asker.request() else {
                 continue;
             };
             let is_head = request.is_head;
-            match (request.asked, &page) {
+            match (request.asked, page) {
                 (Asked::Metrics, Ok(body)) => {
                     let reply = Reply {
                         kind: NUMBERS,
@@ -204,5 +224,41 @@ impl<R: Clock> Monitor for TcpMonitor<'_, R> {
                 _ => asker.answer(self.alloc, Reply::plain(status, line, is_head), now),
             }
         }
+    }
+}
+
+impl<R: Clock + Eprint> Monitor for TcpMonitor<'_, R> {
+    ghost may_tell = { λ _. Unit {0} };
+
+    /// Lets in those who connect, and reads what has come of their requests. Where nobody asks for numbers, it sleeps: for a twentieth of a
+    /// second, or a hundredth where somebody is connected; and once a second it asks itself. Who asks for something else is answered at
+    /// once. The head of a request has a second and a half to come.
+    fn is_asked(&mut self) -> bool {
+        let now = millis(self.rt).unwrap_or(u64::MAX);
+        self.admit(now);
+        self.look(now);
+        if self.is_asked || self.is_due(now) {
+            return true;
+        }
+        let wait = if self.askers.is_empty() {
+            WAIT_MILLIS
+        } else {
+            SHORT_WAIT_MILLIS
+        };
+        thread::sleep(self.rt, Duration::from_millis(wait));
+        false
+    }
+
+    /// Looks at the numbers, and answers all who ask for them.
+    fn tell(&mut self, numbers: &SpoolNumbers) {
+        let now = millis(self.rt).unwrap_or(u64::MAX);
+        let is_full = self.look_at(numbers, now);
+        if !self.is_asked {
+            return;
+        }
+        self.is_asked = false;
+        let disk_fails = self.reports.disk().seconds(self.rt).is_some();
+        let page = self.page(numbers, is_full, now);
+        self.answer_all(&page, health(disk_fails, is_full), now);
     }
 }

@@ -1,11 +1,12 @@
 //! A net over TCP.
-ghost use Rattle.std.specs.Prelude.{◌≡◌, IfOk, All, length};
+ghost use Rattle.std.specs.Prelude.{◌≡◌, ◌<◌, IfOk, IfSome, All, length};
 ghost use Rattle.edge_io.specs.Door.{IsNewDoor};
+ghost use Rattle.edge_io.specs.Net.{SameHung, HasNetCause};
 ghost use Rattle.edge_net.specs.TcpDoor.{state_of as door_state};
 
 use crate::door::Shared;
 use crate::roll::{Place, Roll};
-use crate::{Reports, TcpDoor, TcpLink, TcpMonitor, Waits};
+use crate::{Manager, Reports, TcpDoor, TcpLink, TcpMonitor, Waits};
 use edge_io::{HeldUp, Net, NetFault, Object, Pause};
 use std::alloc::{AllocError, Global};
 use std::net::{self, TcpListener, TcpStream, ToSocketAddrs};
@@ -25,6 +26,26 @@ const SHORT: u32 = 1;
 // After how many twentieths of a second of waiting the places that lack a thread are reported: after three seconds.
 const ROLL_REPORT: u32 = 60;
 
+// A socket that listens, for which no doors were asked yet.
+#[derive(Drop)]
+struct Listening {
+    // The place as it was named.
+    place: String,
+    listener: TcpListener,
+}
+
+// Which of them is at the place, if one is.
+fn listening_at(listening: &[Listening], place: &str) -> Option<usize>
+    ensures { IfSome result (λ at. at < length listening.now) }
+{
+    for at in 0..listening.len() {
+        if listening[at].place.as_str() == place {
+            return Some(at);
+        }
+    }
+    None
+}
+
 /// The sockets of the system. A place is an address of IP or the name of a host, a colon and a port. A bind listens
 /// at the first of the host's addresses that can be bound, a dial connects to the first that answers.
 #[derive(Drop)]
@@ -33,6 +54,10 @@ pub struct TcpNet<'a, R> {
     rt: &'a R,
     reports: &'a Reports,
     waits: Waits,
+    // Who waits until the last of the places is served at which the net listened first.
+    manager: Option<Manager>,
+    // The sockets that listen, and wait for a bind or a monitor.
+    listening: Vec<Listening>,
     // The places that were bound, once one was.
     roll: Option<Arc<Roll>>,
     places: usize,
@@ -63,12 +88,84 @@ impl<'a, R> TcpNet<'a, R> {
             rt,
             reports,
             waits,
+            manager: None,
+            listening: Vec::new(alloc),
             roll: None,
             places: 0,
             waited: 0,
             errors: 0,
             read_errors: 0,
             write_errors: 0,
+        }
+    }
+}
+
+impl<'a, R> TcpNet<'a, R> {
+    ghost use Rattle.edge_net.specs.TcpNet.{state_of};
+
+    /// The same net, which tells the manager once the last of the places is served at which it listened first ([`TcpNet::listen`]).
+    pub fn telling(self, manager: Option<Manager>) -> TcpNet<'a, R>
+        ensures { state_of result ≡ state_of self.entry }
+    {
+        TcpNet { manager, ..self }
+    }
+
+    // The socket that listens at the place already, if one does, which is handed out then.
+    fn take_listening(&mut self, place: &str) -> Option<TcpListener>
+        ensures { state_of self.new ≡ state_of self.old }
+    {
+        let at = listening_at(&self.listening, place)?;
+        let Listening { listener, .. } = self.listening.swap_remove(at);
+        Some(listener)
+    }
+
+    // Tells the manager that all places are served, if this was the last of them.
+    fn tell_served(&self) {
+        if let Some(manager) = &self.manager
+            && self.listening.is_empty()
+        {
+            manager.tell_ready();
+        }
+    }
+}
+
+impl<R: net::Net<Stream = TcpStream, Listener = TcpListener> + Clock + Eprint> TcpNet<'_, R> {
+    ghost use Rattle.edge_net.specs.TcpNet.{state_of};
+
+    /// Listens at the place before doors are asked for there, for which a later bind or monitor of this place takes that socket. Whoever
+    /// connects meanwhile waits. A port that is taken is a fault; standard error says which place it is and what the system says of it.
+    pub fn listen(&mut self, place: &str) -> Result<(), NetFault>
+        ensures cause { HasNetCause (state_of self.old).net_faults (state_of self.new).net_faults result }
+        ensures rest { SameHung (state_of self.old) (state_of self.new) }
+        ensures bound { (state_of self.new).bound ≡ (state_of self.old).bound }
+    {
+        let name = String::from_str(self.alloc, place)?;
+        match TcpListener::bind(self.rt, place) {
+            Ok(listener) => {
+                let listening = Listening {
+                    place: name,
+                    listener,
+                };
+                match self.listening.push(listening) {
+                    Ok(()) => Ok(()),
+                    Err(_) => Err(NetFault::NoMemory),
+                }
+            }
+            Err(error) => {
+                self.reports.cannot_listen(self.rt, place, &error);
+                self.errors = self.errors.saturating_add(1);
+                Err(NetFault::Fault)
+            }
+        }
+    }
+
+    // A socket that listens at the place: the one that does already, or another.
+    fn listener_at(&mut self, place: &str) -> io::Result<TcpListener>
+        ensures { state_of self.new ≡ state_of self.old }
+    {
+        match self.take_listening(place) {
+            Some(listener) => Ok(listener),
+            None => TcpListener::bind(self.rt, place),
         }
     }
 }
@@ -116,16 +213,12 @@ fn doors_over<'a, R>(
     Ok(made)
 }
 
-// A monitor over a socket that listens at the place. The error is the system's.
-fn monitor_at<'a, R: net::Net<Stream = TcpStream, Listener = TcpListener>>(
-    alloc: Global,
-    rt: &'a R,
-    reports: &'a Reports,
-    roll: Arc<Roll>,
-    place: &str,
-) -> io::Result<TcpMonitor<'a, R>> {
-    let listener = TcpListener::bind(rt, place)?;
-    TcpMonitor::over(alloc, rt, reports, roll, listener)
+// When it is, in seconds since 1970; 0 without a clock.
+fn seconds_now(rt: &impl Clock) -> u64 {
+    match rt.since_1970() {
+        Ok(since) => since.as_secs(),
+        Err(_) => 0,
+    }
 }
 
 // Connects to the first of the host's addresses that answers, and waits for each for as long as `wait` at most. The error is that of
@@ -225,6 +318,8 @@ impl<'a, R: net::Net<Stream = TcpStream, Listener = TcpListener> + Clock + Eprin
 
     ghost may_dial = { λ _. Unit {0} };
 
+    ghost may_report = { λ _ _. Unit {0} };
+
     ghost permits = { λ _ _ _ _ _. Unit {0} };
 
     ghost has_room = { λ _. Unit {0} };
@@ -232,11 +327,12 @@ impl<'a, R: net::Net<Stream = TcpStream, Listener = TcpListener> + Clock + Eprin
     /// Listens at the place, with one socket for all the doors, and says so on standard error. A port that is taken is a fault;
     /// standard error says which place it is and what the system says of it.
     fn bind(&mut self, place: &str, doors: u32) -> Result<Vec<TcpDoor<'a, R>>, NetFault> {
-        match TcpListener::bind(self.rt, place) {
+        match self.listener_at(place) {
             Ok(listener) => {
                 let shared = self.shared(listener, place, doors)?;
                 let made = doors_over(self.alloc, place, doors as usize, &shared)?;
                 self.reports.listens(self.rt, place);
+                self.tell_served();
                 Ok(made)
             }
             Err(error) => {
@@ -251,9 +347,17 @@ impl<'a, R: net::Net<Stream = TcpStream, Listener = TcpListener> + Clock + Eprin
     /// says which place it is and what the system says of it.
     fn monitor(&mut self, place: &str) -> Result<TcpMonitor<'a, R>, NetFault> {
         let roll = self.roll()?;
-        match monitor_at(self.alloc, self.rt, self.reports, roll, place) {
+        let (alloc, rt, reports) = (self.alloc, self.rt, self.reports);
+        let made = match self.listener_at(place) {
+            Ok(listener) => {
+                TcpMonitor::over(alloc, rt, reports, roll, listener, seconds_now(rt))
+            }
+            Err(error) => Err(error),
+        };
+        match made {
             Ok(monitor) => {
                 self.reports.listens_for_askers(self.rt, place);
+                self.tell_served();
                 Ok(monitor)
             }
             Err(error) => {

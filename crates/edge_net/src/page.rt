@@ -1,14 +1,19 @@
 //! All that those are told who ask for numbers.
 ghost use Rattle.std.specs.Prelude.{◌≡◌};
-ghost use Rattle.edge_net.specs.Page.{spool_values};
+ghost use Rattle.edge_net.specs.Page.{spool_values, pending_of as pending_in, room_of as room_in};
 
-use crate::counts::Counts;
+use crate::budget::Budget;
+use crate::counts::{Counts, REFUSED};
+use crate::file_counts::STEPS;
 use crate::roll::Roll;
 use edge_io::{Proto, SpoolNumbers};
 use std::alloc::{AllocError, Global};
 
 // The number of the last run that a spool can have.
 const LAST_RUN: u32 = 2_097_151;
+
+// How many microseconds a second has.
+const SECOND_MICROS: u64 = 1_000_000;
 
 // A metric: its name, its type, and what it counts or measures, in a sentence.
 type Head = (&'static str, &'static str, &'static str);
@@ -91,12 +96,56 @@ const ENDED: Head = (
     "Connections of senders that have ended, by the status of their ending.",
 );
 
-// What is counted of the senders and of the receiver, and for how long it and FILE fail, in the order of `failure_values`.
-const FAILURES: [Head; 6] = [
+const REFUSALS: Head = (
+    "bridge_sender_refusals_total",
+    "counter",
+    "Requests and frames of senders that were refused, by protocol and code.",
+);
+
+const HELD_UP: Head = (
+    "bridge_held_up_entry",
+    "gauge",
+    "Number of the entry that holds the forwarding up; there only while one does.",
+);
+
+const BUILD: Head = (
+    "bridge_build_info",
+    "gauge",
+    "1; the label is the version that runs.",
+);
+
+const SYNCS: Head = (
+    "bridge_sync_seconds",
+    "histogram",
+    "Seconds that a sync of FILE took.",
+);
+
+// What else is counted and measured of this run, in the order of `run_values`.
+const RUN: [Head; 10] = [
     (
-        "bridge_sender_refusals_total",
+        "bridge_start_time_seconds",
+        "gauge",
+        "When this run began, in seconds since 1970.",
+    ),
+    (
+        "bridge_oldest_pending_seconds",
+        "gauge",
+        "Seconds since this run first saw the oldest pending entry; 0 while none is pending.",
+    ),
+    (
+        "bridge_received_bytes_total",
         "counter",
-        "Requests and frames of senders that were refused.",
+        "Bytes that senders have sent.",
+    ),
+    (
+        "bridge_sent_bytes_total",
+        "counter",
+        "Bytes that were written to the receiver.",
+    ),
+    (
+        "bridge_file_written_bytes_total",
+        "counter",
+        "Bytes that were written to FILE.",
     ),
     (
         "bridge_receiver_sessions_total",
@@ -125,19 +174,77 @@ const FAILURES: [Head; 6] = [
     ),
 ];
 
+// What memory the connections of senders take, in the order of `Budget::values`.
+const MEMORY: [Head; 3] = [
+    (
+        "bridge_memory_held_bytes",
+        "gauge",
+        "Bytes of memory that connections of senders have taken.",
+    ),
+    (
+        "bridge_memory_limit_bytes",
+        "gauge",
+        "Bytes of memory that connections of senders may take.",
+    ),
+    (
+        "bridge_memory_waiting",
+        "gauge",
+        "Connections of senders that wait for memory.",
+    ),
+];
+
+/// What those are told who ask for numbers.
+#[derive(Clone, Copy)]
+pub(crate) struct Glance<'a> {
+    /// The numbers of the spool.
+    pub(crate) numbers: &'a SpoolNumbers,
+    /// Whether it is full.
+    pub(crate) is_full: bool,
+    /// The version that runs.
+    pub(crate) version: &'static str,
+    /// When the run began, in seconds since 1970.
+    pub(crate) began: u64,
+    /// How many seconds ago the oldest pending entry was first seen, or 0.
+    pub(crate) oldest: u64,
+    /// What was counted.
+    pub(crate) counts: &'a Counts,
+    /// The memory that their connections take.
+    pub(crate) budget: &'a Budget,
+    /// The places at which senders connect.
+    pub(crate) roll: &'a Roll,
+    /// For how many seconds calls of FILE have failed, or 0.
+    pub(crate) disk_fails: u64,
+    /// For how many seconds the receiver has failed, or 0.
+    pub(crate) receiver_fails: u64,
+}
+
+/// How many entries are pending.
+pub(crate) fn pending_of(numbers: &SpoolNumbers) -> u64
+    ensures { result ≡ pending_in numbers.now }
+{
+    let from_cursor = numbers.end.saturating_sub(numbers.cursor);
+    from_cursor.saturating_sub(numbers.known_count)
+}
+
+/// How many bytes of events there is room for.
+pub(crate) fn room_of(numbers: &SpoolNumbers) -> u64
+    ensures { result ≡ room_in numbers.now }
+{
+    let free = u64::from(numbers.free_slots).saturating_mul(numbers.most);
+    numbers.room.saturating_add(free)
+}
+
 // The values of the spool's metrics.
 fn spool_values(numbers: &SpoolNumbers, is_full: bool) -> [u64; 11]
     ensures { result ≡ spool_values numbers.now is_full }
 {
     let n = *numbers;
-    let from_cursor = n.end.saturating_sub(n.cursor);
-    let free = u64::from(n.free_slots).saturating_mul(n.most);
     [
         n.end,
         n.cursor,
         n.known_count,
-        from_cursor.saturating_sub(n.known_count),
-        n.room.saturating_add(free),
+        pending_of(numbers),
+        room_of(numbers),
         u64::from(n.slots),
         u64::from(n.free_slots),
         n.most,
@@ -147,15 +254,20 @@ fn spool_values(numbers: &SpoolNumbers, is_full: bool) -> [u64; 11]
     ]
 }
 
-// The values of those of failures.
-fn failure_values(counts: &Counts, disk_fails: u64, receiver_fails: u64) -> [u64; 6] {
+// The values of those of the run.
+fn run_values(glance: &Glance<'_>) -> [u64; 10] {
+    let counts = glance.counts;
     [
-        counts.refusals.get(),
+        glance.began,
+        glance.oldest,
+        counts.received.get(),
+        counts.sent.get(),
+        counts.file.written(),
         counts.sessions.get(),
         counts.unreached.get(),
         counts.receiver_refusals.get(),
-        receiver_fails,
-        disk_fails,
+        glance.receiver_fails,
+        glance.disk_fails,
     ]
 }
 
@@ -238,6 +350,54 @@ fn write_ended(text: &mut String, roll: &Roll) -> Result<(), AllocError> {
     Ok(())
 }
 
+// Writes a sample for each protocol and code by which senders are refused.
+fn write_refusals(text: &mut String, counts: &Counts) -> Result<(), AllocError> {
+    write_head(text, REFUSALS)?;
+    let name = REFUSALS.0;
+    for ((proto, code), count) in REFUSED.iter().zip(counts.refusals.rows()) {
+        let (proto, code, times) = (*proto, *code, count.get());
+        write!(
+            text,
+            "{name}{{protocol=\"{proto}\",code=\"{code}\"}} {times}\n"
+        )?;
+    }
+    Ok(())
+}
+
+// Writes the version, and which entry is held up where one is.
+fn write_version_and_obstacle(text: &mut String, glance: &Glance<'_>) -> Result<(), AllocError> {
+    write_head(text, BUILD)?;
+    let (name, version) = (BUILD.0, glance.version);
+    write!(text, "{name}{{version=\"{version}\"}} 1\n")?;
+    write_head(text, HELD_UP)?;
+    if let Some(number) = glance.counts.obstacle.entry(glance.numbers.cursor) {
+        let name = HELD_UP.0;
+        write!(text, "{name} {number}\n")?;
+    }
+    Ok(())
+}
+
+// Writes how many syncs took how long: those of each row with all shorter ones, and all together with what they took.
+fn write_syncs(text: &mut String, counts: &Counts) -> Result<(), AllocError> {
+    write_head(text, SYNCS)?;
+    let (name, syncs) = (SYNCS.0, counts.file.syncs());
+    let mut times = 0u64;
+    for ((_, label), count) in STEPS.iter().zip(syncs) {
+        times = times.saturating_add(count.get());
+        let label = *label;
+        write!(text, "{name}_bucket{{le=\"{label}\"}} {times}\n")?;
+    }
+    if let Some(longer) = syncs.last() {
+        times = times.saturating_add(longer.get());
+    }
+    let micros = counts.file.micros();
+    let (seconds, rest) = (micros / SECOND_MICROS, micros % SECOND_MICROS);
+    write!(
+        text,
+        "{name}_bucket{{le=\"+Inf\"}} {times}\n{name}_sum {seconds}.{rest:06}\n{name}_count {times}\n"
+    )
+}
+
 /// The text as the value of a label, between its quotes.
 pub(crate) fn escaped(alloc: Global, text: &str) -> Result<String, AllocError> {
     let mut label = String::new(alloc);
@@ -252,23 +412,18 @@ pub(crate) fn escaped(alloc: Global, text: &str) -> Result<String, AllocError> {
     Ok(label)
 }
 
-/// All that those are told who ask for numbers, in Prometheus' text format: the numbers of the spool, and whether it is full; what was
-/// counted; the places at which senders connect; and for how many seconds calls of FILE and the receiver have failed, or 0.
-pub(crate) fn page(
-    alloc: Global,
-    numbers: &SpoolNumbers,
-    is_full: bool,
-    counts: &Counts,
-    roll: &Roll,
-    disk_fails: u64,
-    receiver_fails: u64,
-) -> Result<String, AllocError> {
+/// All that those are told who ask for numbers, in Prometheus' text format.
+pub(crate) fn page(alloc: Global, glance: &Glance<'_>) -> Result<String, AllocError> {
+    let (numbers, counts, roll) = (glance.numbers, glance.counts, glance.roll);
     let mut text = String::new(alloc);
-    write_rows(&mut text, &SPOOL, &spool_values(numbers, is_full))?;
+    write_rows(&mut text, &SPOOL, &spool_values(numbers, glance.is_full))?;
     write_stored(&mut text, numbers)?;
     write_places(&mut text, roll)?;
     write_ended(&mut text, roll)?;
-    let values = failure_values(counts, disk_fails, receiver_fails);
-    write_rows(&mut text, &FAILURES, &values)?;
+    write_refusals(&mut text, counts)?;
+    write_version_and_obstacle(&mut text, glance)?;
+    write_rows(&mut text, &RUN, &run_values(glance))?;
+    write_syncs(&mut text, counts)?;
+    write_rows(&mut text, &MEMORY, &glance.budget.values())?;
     Ok(text)
 }

@@ -1,7 +1,8 @@
 //! About which senders a line was printed lately, and what was left unsaid.
 ghost use Rattle.std.specs.Prelude.{◌≡◌, ◌↔◌, ◌<◌, ◌≤◌, ◌+◌, ◌^◌, ◌⊎◌, Some, IsTrue, IfSome, IfNone, IsSomeAnd, MatchOption, slice_get};
 
-use crate::{Matter, Pace, Topic};
+use crate::{Matter, Pace, Topic, Trouble};
+use edge_io::Shortage;
 use std::fmt;
 use std::net::IpAddr;
 
@@ -29,11 +30,63 @@ fn same_peer(one: IpAddr, other: IpAddr) -> bool
     one == other
 }
 
+// Whether both have one reason, or none.
+fn same_reason(one: Option<u16>, other: Option<u16>) -> bool
+    ensures { IsTrue result ↔ (one ≡ other) }
+{
+    one == other
+}
+
+// Whether the same lacked, or nothing.
+fn same_shortage(one: Option<Shortage>, other: Option<Shortage>) -> bool
+    ensures { IsTrue result ↔ (one ≡ other) }
+{
+    one == other
+}
+
+// Whether the same went wrong, or nothing.
+fn same_trouble(one: Option<Trouble>, other: Option<Trouble>) -> bool
+    ensures { IsTrue result ↔ (one ≡ other) }
+{
+    one == other
+}
+
 // Whether the same befell both.
 fn same_matter(one: Matter, other: Matter) -> bool
     ensures { IsTrue result ↔ (one ≡ other) }
 {
-    one == other
+    match (one, other) {
+        (
+            Matter::RequestRefused { code, reason },
+            Matter::RequestRefused {
+                code: other_code,
+                reason: other_reason,
+            },
+        ) => code == other_code && same_reason(reason, other_reason),
+        (Matter::FrameRefused { code }, Matter::FrameRefused { code: other_code }) => {
+            code == other_code
+        }
+        (
+            Matter::Ended {
+                proto,
+                status,
+                shortage,
+                trouble,
+            },
+            Matter::Ended {
+                proto: other_proto,
+                status: other_status,
+                shortage: other_shortage,
+                trouble: other_trouble,
+            },
+        ) => {
+            proto == other_proto
+                && status == other_status
+                && same_shortage(shortage, other_shortage)
+                && same_trouble(trouble, other_trouble)
+        }
+        _ => false,
+    }
 }
 
 impl Entry {

@@ -1,11 +1,13 @@
 //! What is said on standard error of the sockets.
-ghost use Rattle.std.specs.Prelude.{◌≡◌, true, false};
+ghost use Rattle.std.specs.Prelude.{◌≡◌, max, true, false};
 
+use crate::budget::{Budget, STANDARD_MEMORY};
 use crate::counts::Counts;
 use crate::hindrance::Hindrance;
+use crate::page::{pending_of, room_of};
 use crate::since::millis;
-use crate::{Illness, Line, Matter, Receiver, Recent, Since, Standstill, Topic};
-use edge_io::HeldUp;
+use crate::{FileCounts, Illness, Line, Matter, Receiver, Recent, Since, Standstill, Topic};
+use edge_io::{HeldUp, SpoolNumbers};
 use std::net::SocketAddr;
 use std::rt::Clock;
 use std::sync::Mutex;
@@ -20,12 +22,15 @@ use std::{fmt, io};
 #[derive(Drop)]
 pub struct Reports {
     is_quiet: bool,
+    // The version that runs, or nothing.
+    version: &'static str,
     senders: Mutex<Recent>,
     receiver: Mutex<Receiver>,
     standstill: Mutex<Standstill>,
     // How often something befell a sender's connection while another thread noted such a thing.
     overlooked: AtomicU64,
     counts: Counts,
+    budget: Budget,
 }
 
 // What a line about the receiver stands for beside what it says.
@@ -92,12 +97,37 @@ impl Reports {
     {
         Reports {
             is_quiet,
+            version: "",
             senders: Mutex::new(Recent::new()),
             receiver: Mutex::new(Receiver::new()),
             standstill: Mutex::new(Standstill::new()),
             overlooked: AtomicU64::new(0),
             counts: Counts::new(),
+            budget: Budget::new(STANDARD_MEMORY),
         }
+    }
+
+    /// The same, where the connections of senders may take so many bytes of memory, or 16,777,216 where they are fewer.
+    pub fn with_memory(self, bytes: u64) -> Reports
+        ensures quiet { result.is_quiet ≡ self.is_quiet }
+        ensures bound { result.budget.bound ≡ max bytes 16_777_216 }
+    {
+        Reports {
+            budget: Budget::new(bytes),
+            ..self
+        }
+    }
+
+    /// The same of a program of that version, which those are told who ask for numbers.
+    pub fn of_version(self, version: &'static str) -> Reports
+        ensures { result.is_quiet ≡ self.is_quiet }
+    {
+        Reports { version, ..self }
+    }
+
+    /// The version that runs.
+    pub(crate) fn version(&self) -> &'static str {
+        self.version
     }
 
     /// Whether no line is printed.
@@ -112,9 +142,41 @@ impl Reports {
         &self.counts
     }
 
-    /// Since when calls of FILE fail, for whoever makes them to note.
+    /// The memory that the connections of senders take.
+    pub(crate) fn budget(&self) -> &Budget {
+        &self.budget
+    }
+
+    /// What is counted of the calls of FILE, for whoever makes them to note.
+    pub fn file(&self) -> &FileCounts {
+        &self.counts.file
+    }
+
+    /// Since when calls of FILE fail.
     pub fn disk(&self) -> &Since {
-        &self.counts.disk
+        &self.counts.file.failing
+    }
+
+    /// What is pending as the spool begins to be served, and how much room there is.
+    pub(crate) fn begins(&self, rt: &impl Eprint, numbers: &SpoolNumbers) {
+        if !self.is_quiet {
+            let (run, pending, room) = (numbers.run, pending_of(numbers), room_of(numbers));
+            let _ = eprintln!(rt;
+                "bridge: run {run} begins: {pending} entries pending, room for {room} bytes"
+            );
+        }
+    }
+
+    /// That the spool is full, or isn't any more.
+    pub(crate) fn fills(&self, rt: &impl Eprint, is_full: bool) {
+        if self.is_quiet {
+            return;
+        }
+        let _ = if is_full {
+            eprintln!(rt; "bridge: FILE has no room; nothing is acknowledged until it has")
+        } else {
+            eprintln!(rt; "bridge: FILE has room again")
+        };
     }
 
     /// That a place is listened at.
@@ -199,6 +261,7 @@ impl Reports {
 
     /// That a session with the receiver at this place failed, and what holds the forwarding up.
     pub(crate) fn held_up(&self, rt: &(impl Clock + Eprint), place: &str, held_up: &HeldUp) {
+        self.counts.obstacle.note(held_up);
         if !self.is_quiet && self.is_hindrance(rt, held_up) {
             let hindrance = Hindrance { held_up };
             let _ = eprintln!(rt; "bridge: receiver {place}: {hindrance}");

@@ -1,7 +1,8 @@
 //! What is seen of a connection, for the lines about it.
+use crate::answer::reason_in;
 use crate::trouble::Way;
 use crate::{Answer, Illness, Matter, Reports, Trouble};
-use edge_io::Proto;
+use edge_io::{Proto, Shortage};
 use std::io;
 use std::net::SocketAddr;
 use std::rt::Clock;
@@ -44,6 +45,11 @@ impl<'a, R> Watch<'a, R> {
             trouble: None,
         }
     }
+
+    /// A call waited for the peer for so long, in place of as long as any may.
+    pub(crate) fn waited(&mut self, wait: Duration) {
+        self.wait = self.wait.min(wait);
+    }
 }
 
 impl<R: Clock + Eprint> Watch<'_, R> {
@@ -70,7 +76,7 @@ impl<R: Clock + Eprint> Watch<'_, R> {
             self.has_read = true;
         }
         let Some(place) = place else {
-            return;
+            return self.reports.counts().received.add_many(bytes.len() as u64);
         };
         if bytes.is_empty() {
             let illness = self.closing();
@@ -90,10 +96,10 @@ impl<R: Clock + Eprint> Watch<'_, R> {
         }
     }
 
-    /// A write took this piece, or its beginning.
-    pub(crate) fn saw_write(&mut self, piece: &[u8]) {
+    /// A write took so many bytes of this piece.
+    pub(crate) fn saw_write(&mut self, piece: &[u8], taken: usize) {
         let Some(peer) = self.peer else {
-            return;
+            return self.reports.counts().sent.add_many(taken as u64);
         };
         let Some(answer) = Answer::at(piece) else {
             return;
@@ -102,11 +108,14 @@ impl<R: Clock + Eprint> Watch<'_, R> {
             return;
         };
         let matter = match answer {
-            Answer::Reply { .. } => Matter::RequestRefused { code },
+            Answer::Reply { .. } => Matter::RequestRefused {
+                code,
+                reason: reason_in(piece),
+            },
             Answer::Frame { .. } => Matter::FrameRefused { code },
         };
         self.is_said = true;
-        self.reports.counts().refusals.add();
+        self.reports.counts().refusals.add(answer);
         self.reports.sender(self.rt, peer, matter);
     }
 
@@ -123,8 +132,9 @@ impl<R: Clock + Eprint> Watch<'_, R> {
         self.fails(place, Illness::Lost { trouble });
     }
 
-    /// A connection that was accepted was served to its end, by this protocol and with this exit status.
-    pub(crate) fn ended(&self, proto: Proto, status: u8) {
+    /// A connection that was accepted was served to its end, by this protocol and with this exit status, and this lacked then, if anything
+    /// did.
+    pub(crate) fn ended(&self, proto: Proto, status: u8, shortage: Option<Shortage>) {
         let is_unused = !self.has_read && self.trouble == Some(Trouble::Reset);
         if status == 0 || self.is_said || is_unused {
             return;
@@ -133,6 +143,7 @@ impl<R: Clock + Eprint> Watch<'_, R> {
             let matter = Matter::Ended {
                 proto,
                 status,
+                shortage,
                 trouble: self.trouble,
             };
             self.reports.sender(self.rt, peer, matter);

@@ -5,8 +5,8 @@ use Rattle.std.proofs.lemmas.List.{append-nil}
 use Rattle.json_span.specs.Json.{is_space, AreSpaces}
 use Rattle.json_span.proofs.Stretches.{spaces_at}
 use Rattle.hec_body.specs.Events.{BeginsObject, IsEventObject, BeginsEvents, BeginsNoObject, IsRefused, IsFaultBehind, IsCut}
-use Rattle.hec_body.specs.declared.fault.BodyFault.{BodyFault}
-use Rattle.hec_body.specs.declared.fault.BodyFault.TheVariants.{NoData, Format, NoEvent, Blank, TooMany, NoMemory}
+use Rattle.body_faults.specs.declared.fault.BodyFault.{BodyFault}
+use Rattle.body_faults.specs.declared.fault.BodyFault.TheVariants.{NoData, Format, NoEvent, Blank, TooMany, NoMemory}
 use Rattle.hec_body.proofs.Front.{object_brace, begins_brace, one_object}
 use Rattle.hec_body.proofs.Verdicts.{event_not_refused, refused_once}
 

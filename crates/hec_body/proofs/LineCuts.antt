@@ -8,8 +8,8 @@ use Rattle.std.proofs.lemmas.List.{get_or_append_left}
 use Rattle.std.proofs.lemmas.List.Elements.{All-get_or}
 use Rattle.hec_body.specs.Limits.{IsShort, IsLong, AreWithinLimits}
 use Rattle.hec_body.specs.Lines.{filled_lines, NextLineIs, IsLineFault, IsLineCut}
-use Rattle.hec_body.specs.declared.fault.BodyFault.{BodyFault}
-use Rattle.hec_body.specs.declared.fault.BodyFault.TheVariants.{NoData, Format, NoEvent, Blank, TooMany, NoMemory}
+use Rattle.body_faults.specs.declared.fault.BodyFault.{BodyFault}
+use Rattle.body_faults.specs.declared.fault.BodyFault.TheVariants.{NoData, Format, NoEvent, Blank, TooMany, NoMemory}
 use Rattle.hec_body.proofs.Cuts.{memory_or_not}
 
 abbrev Texts : Type 0

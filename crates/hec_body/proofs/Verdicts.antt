@@ -7,8 +7,8 @@ use Rattle.std.proofs.lemmas.List.Elements.{All-head, All-tail, All-get_or}
 use Rattle.json_span.specs.declared.object.Member.{Member}
 use Rattle.json_span.proofs.MembersOnly.{members_only}
 use Rattle.hec_body.specs.Events.{whole_of, IsNamedEvent, FirstEventIs, HasEvent, HasNoEvent, IsBlank, IsEventObject, IsRefused}
-use Rattle.hec_body.specs.declared.fault.BodyFault.{BodyFault}
-use Rattle.hec_body.specs.declared.fault.BodyFault.TheVariants.{NoData, Format, NoEvent, Blank, TooMany, NoMemory}
+use Rattle.body_faults.specs.declared.fault.BodyFault.{BodyFault}
+use Rattle.body_faults.specs.declared.fault.BodyFault.TheVariants.{NoData, Format, NoEvent, Blank, TooMany, NoMemory}
 
 one_first : (text : List ℕ) (before earlier : List Member) (e f : Member) (after later : List Member) → All (λ m. ¬ IsNamedEvent text m) before → All (λ m. ¬ IsNamedEvent text m) earlier → IsNamedEvent text e → IsNamedEvent text f → before ++ e ∷ after ≡ earlier ++ f ∷ later → e ≡ f
 one_first text [] [] e f after later nb ne he hf same = cc

@@ -6,8 +6,8 @@ use Rattle.json_span.specs.Members.{HasMembers}
 use Rattle.json_span.specs.declared.span.Span.{Span}
 use Rattle.json_span.specs.declared.object.Member.{Member}
 use Rattle.hec_body.specs.Limits.{IsShort, IsLong, AreWithinLimits}
-use Rattle.hec_body.specs.declared.fault.BodyFault.{BodyFault}
-use Rattle.hec_body.specs.declared.fault.BodyFault.TheVariants.{NoData, Format, NoEvent, Blank, TooMany, NoMemory}
+use Rattle.body_faults.specs.declared.fault.BodyFault.{BodyFault}
+use Rattle.body_faults.specs.declared.fault.BodyFault.TheVariants.{NoData, Format, NoEvent, Blank, TooMany, NoMemory}
 
 -- The bytes are white space, an object of at most 127 levels with this text, and the rest.
 pub record BeginsObject (bytes text rest : List ℕ) : Type 0 where

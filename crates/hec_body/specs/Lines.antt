@@ -3,8 +3,8 @@ use Rattle.std.specs.Prelude.{◌≡◌, ℕ, ◌<◌, ◌⊎◌, ⊤, List, [],
 use Rattle.std.specs.List.{All}
 use Rattle.std.specs.Str.Lines.{lines}
 use Rattle.hec_body.specs.Limits.{IsShort, IsLong, AreWithinLimits}
-use Rattle.hec_body.specs.declared.fault.BodyFault.{BodyFault}
-use Rattle.hec_body.specs.declared.fault.BodyFault.TheVariants.{NoData, Format, NoEvent, Blank, TooMany, NoMemory}
+use Rattle.body_faults.specs.declared.fault.BodyFault.{BodyFault}
+use Rattle.body_faults.specs.declared.fault.BodyFault.TheVariants.{NoData, Format, NoEvent, Blank, TooMany, NoMemory}
 
 -- The lines of a body, the empty ones left out. A line ends with LF or with the body; one CR before the LF
 -- belongs to the line's end.

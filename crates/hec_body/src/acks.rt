@@ -3,11 +3,11 @@ ghost use Rattle.std.specs.Prelude.{◌≡◌, ◌≢◌, ◌≤◌, ℕ, List, 
 ghost use Rattle.std.specs.List.{IsDistinct};
 ghost use Rattle.serde_json.specs.Find.{get, as_array};
 ghost use Rattle.serde_json.specs.View.{view, items_view};
-ghost use Rattle.hec_body.specs.declared.fault.AckFault.TheVariants.{Format};
+ghost use Rattle.body_faults.specs.declared.fault.AckFault.TheVariants.{Format};
 ghost use Rattle.hec_body.specs.Acks.{numbers, distinct, AsksFor};
 
-use crate::fault::AckFault;
 use crate::limits::MOST_IDS;
+use body_faults::AckFault;
 use serde_json::Value;
 use std::alloc::{AllocError, Global};
 use std::collections::BTreeSet;

@@ -3,9 +3,9 @@ ghost use Rattle.std.specs.Prelude.{◌≤◌, length, OnOk, IfOk, IfErr, IfSome
 ghost use Rattle.hec_body.specs.Limits.{AreWithinLimits};
 ghost use Rattle.hec_body.specs.Events.{HasEvent, HasNoEvent, IsEventObject, AreEvents, IsRefused, IsFirstFault};
 
-use crate::fault::BodyFault;
 use crate::limits::{MOST_EVENTS, MOST_TEXT};
 use crate::objects::{first_object, is_blank, is_white_space};
+use body_faults::BodyFault;
 use event_form::Blob;
 use std::alloc::Global;
 

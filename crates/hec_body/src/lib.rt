@@ -9,7 +9,6 @@
 mod acks;
 mod answers;
 mod events;
-mod fault;
 mod laws;
 mod limits;
 mod lines;
@@ -17,7 +16,7 @@ mod objects;
 
 pub use acks::ack_ids;
 pub use answers::ack_text;
+pub use body_faults::{AckFault, BodyFault};
 pub use events::event_pieces;
-pub use fault::{AckFault, BodyFault};
 pub use laws::{one_cut, one_line_cut, one_query};
 pub use lines::raw_lines;

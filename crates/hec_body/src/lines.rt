@@ -4,8 +4,8 @@ ghost use Rattle.std.specs.Str.Lines.{lines};
 ghost use Rattle.hec_body.specs.Limits.{AreWithinLimits};
 ghost use Rattle.hec_body.specs.Lines.{filled_lines, IsLineFault};
 
-use crate::fault::BodyFault;
 use crate::limits::{MOST_EVENTS, MOST_TEXT};
+use body_faults::BodyFault;
 use event_form::Blob;
 use std::alloc::Global;
 

@@ -1,8 +1,8 @@
 -- A request has one act.
 use Rattle.std.proofs.Common.{◌≡◌, ℕ, ◌⊎◌, inl, inr, List, map, None, Result, Ok, Err, refl, sym, ◌∙◌, ap, subst}
 use Rattle.event_form.specs.declared.event.Event.{Event}
-use Rattle.hec_body.specs.declared.fault.BodyFault.{BodyFault}
-use Rattle.hec_body.specs.declared.fault.BodyFault.TheVariants.{NoData, Format, NoEvent, Blank, TooMany, NoMemory}
+use Rattle.body_faults.specs.declared.fault.BodyFault.{BodyFault}
+use Rattle.body_faults.specs.declared.fault.BodyFault.TheVariants.{NoData, Format, NoEvent, Blank, TooMany, NoMemory}
 use Rattle.hec_body.specs.Events.{OneCut}
 use Rattle.hec_body.specs.Lines.{OneLineCut}
 use Rattle.hec_body.specs.Acks.{OneQuery}

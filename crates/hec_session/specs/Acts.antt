@@ -6,8 +6,8 @@ use Rattle.event_form.specs.declared.event.Event.{Event}
 use Rattle.event_form.specs.declared.event.Origin.{Origin}
 use Rattle.event_form.specs.declared.event.Origin.TheVariants.{HecEvent, HecRaw}
 use Rattle.event_form.specs.Event.{IsEvent}
-use Rattle.hec_body.specs.declared.fault.BodyFault.{BodyFault}
-use Rattle.hec_body.specs.declared.fault.BodyFault.TheVariants.{NoData, Format, NoEvent, Blank, TooMany, NoMemory}
+use Rattle.body_faults.specs.declared.fault.BodyFault.{BodyFault}
+use Rattle.body_faults.specs.declared.fault.BodyFault.TheVariants.{NoData, Format, NoEvent, Blank, TooMany, NoMemory}
 use Rattle.hec_body.specs.Events.{IsCut}
 use Rattle.hec_body.specs.Lines.{IsLineCut}
 use Rattle.hec_body.specs.Acks.{AsksFor}

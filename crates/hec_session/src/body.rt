@@ -1,7 +1,7 @@
 //! What is done for a request's body.
 ghost use Rattle.std.specs.Prelude.{◌≡◌, ◌≤◌, length, map, IfOk, IfErr, MatchResult};
 ghost use Rattle.hec_body.specs.Limits as limits;
-ghost use Rattle.hec_body.specs.declared.fault.BodyFault.TheVariants.{NoMemory};
+ghost use Rattle.body_faults.specs.declared.fault.BodyFault.TheVariants.{NoMemory};
 ghost use Rattle.hec_session.specs.Codes.{IsReply};
 ghost use Rattle.hec_session.specs.Acts.{AreEventsOf, AreWithinLimits, AsksOn, IsCutBy, IsSound, Stores, StoresOn, Tells, count_of, event_of, origin_of};
 

@@ -12,8 +12,8 @@ use Rattle.json_span.specs.Strings.{CharKind, EndsString, IsString, Plain, is_pl
 use Rattle.json_span.specs.declared.object.Member.{Member}
 use Rattle.json_span.proofs.MembersExist.{members_object}
 use Rattle.json_span.proofs.Stretches.{range_parts, range_whole}
-use Rattle.hec_body.specs.declared.fault.BodyFault.{BodyFault}
-use Rattle.hec_body.specs.declared.fault.BodyFault.TheVariants.{NoMemory}
+use Rattle.body_faults.specs.declared.fault.BodyFault.{BodyFault}
+use Rattle.body_faults.specs.declared.fault.BodyFault.TheVariants.{NoMemory}
 use Rattle.hec_body.specs.Events.{HasEvent, IsBlank, IsCut, IsNamedEvent, whole_of}
 use Rattle.hec_body.specs.Limits.{IsShort}
 use Rattle.hec_body.proofs.Cuts.{one_cut}

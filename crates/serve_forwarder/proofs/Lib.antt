@@ -2,3 +2,4 @@ mod Asking
 mod Hanging
 mod Turning
 pub mod Chain
+mod Reporting

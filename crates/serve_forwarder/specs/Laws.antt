@@ -5,8 +5,8 @@ use Rattle.desk_access.specs.Desk.{DeskState}
 use Rattle.forward_core.specs.Protocols.{HintsAs}
 use Rattle.forward_core.specs.declared.outward.Outward.{Outward}
 use Rattle.forward_core.specs.declared.sent.Sent.TheVariants.{PeerClosed}
-use Rattle.spool_turns.specs.Passes.{Known}
-use Rattle.spool_turns.specs.Ran.{Ran}
+use Rattle.desk_seats.specs.Passes.{Known}
+use Rattle.desk_seats.specs.Ran.{Ran}
 use Rattle.serve_forwarder.specs.declared.destination.Destination.{Destination}
 use Rattle.serve_forwarder.specs.Sessions.{Session, IsHeld, TellsSession, TellsSessions}
 use Rattle.serve_forwarder.specs.Looks.{Forwarder, Look, AreLooks, calls_of, sessions_of}

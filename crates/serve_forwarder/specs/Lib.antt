@@ -3,3 +3,4 @@ pub mod Looks
 pub mod Released
 pub mod Laws
 pub mod Held
+pub mod Reported

@@ -10,8 +10,8 @@ use Rattle.desk_access.specs.Desk.{DeskState}
 use Rattle.forward_core.specs.declared.outward.Outward.{Outward}
 use Rattle.forward_core.specs.declared.sent.Sent.{Sent}
 use Rattle.forward_core.specs.declared.sent.Sent.TheVariants.{Drained}
-use Rattle.spool_turns.specs.Passes.{Known}
-use Rattle.spool_turns.specs.Ran.{Ran}
+use Rattle.desk_seats.specs.Passes.{Known}
+use Rattle.desk_seats.specs.Ran.{Ran}
 use Rattle.serve_forwarder.specs.declared.destination.Destination.{Destination}
 use Rattle.serve_forwarder.specs.declared.looking.Looked.{Looked}
 use Rattle.serve_forwarder.specs.declared.looking.Outcome.{Outcome}

@@ -8,8 +8,8 @@ use Rattle.forward_core.specs.Exchanged.{IsNewAt}
 use Rattle.forward_core.specs.Forwarded.{Asked, until_by}
 use Rattle.forward_core.specs.Protocols.{EndsAs, settings_as}
 use Rattle.forward_core.specs.declared.outward.Outward.{Outward}
-use Rattle.spool_turns.specs.Passes.{Known}
-use Rattle.spool_turns.specs.Ran.{Ran}
+use Rattle.desk_seats.specs.Passes.{Known}
+use Rattle.desk_seats.specs.Ran.{Ran}
 use Rattle.serve_forwarder.specs.declared.destination.Destination.{Destination}
 use Rattle.serve_forwarder.specs.Sessions.{CallerOf, Saw}
 

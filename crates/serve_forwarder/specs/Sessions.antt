@@ -13,8 +13,8 @@ use Rattle.forward_core.specs.Turning.{IsHalt}
 use Rattle.forward_core.specs.declared.outward.Outward.{Outward}
 use Rattle.forward_core.specs.declared.sent.Sent.{Sent}
 use Rattle.forward_core.specs.declared.sent.Sent.TheVariants.{ReadFault, WriteFault}
-use Rattle.spool_turns.specs.Passes.{Known}
-use Rattle.spool_turns.specs.Ran.{Ran}
+use Rattle.desk_seats.specs.Passes.{Known}
+use Rattle.desk_seats.specs.Ran.{Ran}
 use Rattle.serve_forwarder.specs.declared.destination.Destination.{Destination}
 
 -- A session: it was to send the entries with numbers from `start` on and below `until`. The bytes read, the calls made on the desk,

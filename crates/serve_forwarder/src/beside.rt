@@ -1,16 +1,15 @@
 //! Looking again and again, beside those who store.
 ghost use Rattle.std.specs.Prelude.{◌≡◌, ◌+◌, ◌*◌, ◌<◌, List, None, min};
 ghost use Rattle.forward_core.specs.Exchanged.{HasExchangedAt};
-ghost use Rattle.spool_turns.specs.Replays.{IsReal};
 ghost use Rattle.serve_forwarder.specs.Looks.{AreInTurn, AreLooks, Look, forwarder_at};
 ghost use Rattle.serve_forwarder.specs.Released.{MayRelease};
+ghost use Rattle.serve_forwarder.specs.Reported.{MayReport};
 
 use crate::Destination;
 use crate::looking::{Looked, Outcome, look};
-use edge_disk::Disk;
+use desk_seats::Seat;
 use edge_io::Net;
 use forward_core::Sent;
-use spool_turns::{Naming, Seated};
 use std::alloc::Global;
 use std::sync::Wait;
 use std::sync::atomic::{AtomicBool, Ordering};
@@ -81,31 +80,34 @@ fn rest_after<N: Net>(
 /// between the pauses. Once that entry is acknowledged, all are offered again.
 ///
 /// The destination's place is one that may be dialed, and a number may become known as confirmed once the peer there has acknowledged
-/// its entry (`earned`).
-pub fn forward_beside<N: Net, D: Disk, J: Naming, R: Wait>(
+/// its entry (`earned`). What is reported as holding the forwarding up is the entry that a session offered alone and that was not
+/// acknowledged then (`reports`).
+pub fn forward_beside<N: Net, S: Seat, R: Wait>(
+    rt: &R,
     alloc: Global,
     destination: &Destination,
     net: &mut N,
-    seated: &mut Seated<'_, D, J, R>,
+    seat: &mut S,
     ended: &AtomicBool,
 )
-    requires confirms { seated.old.pass.number + 1 ≡ J.seats }
+    requires confirms { (S.knows seat.old).number + 1 ≡ S.seats }
     requires polls { 0 < destination.now.outward.polls }
     requires named { N.may_dial destination.now.place }
-    requires earned { MayRelease (IsReal D.Disk J.start J.run J.seats J.began) J.start destination.now.outward
-        (HasExchangedAt N.L.same N.L.dialed N.L.given N.L.taken destination.now.place) D.may_release }
+    requires earned { MayRelease S.is_real S.start destination.now.outward
+        (HasExchangedAt N.L.same N.L.dialed N.L.given N.L.taken destination.now.place) S.may_release }
+    requires reports { MayReport S.is_real S.start destination.now.outward
+        (HasExchangedAt N.L.same N.L.dialed N.L.given N.L.taken destination.now.place) (N.may_report destination.now.place) }
 
-    ensures { (looks : List Look) × AreLooks J.start destination.now looks (forwarder_at seated.old.pass (N.told net.old))
-        (forwarder_at seated.new.pass (N.told net.new)) × AreInTurn None looks }
+    ensures { (looks : List Look) × AreLooks S.start destination.now looks (forwarder_at (S.knows seat.old) (N.told net.old))
+        (forwarder_at (S.knows seat.new) (N.told net.new)) × AreInTurn None looks }
 {
-    let rt = seated.rt;
     let mut stuck = None;
     let mut pauses = 1;
     'looks: for _ in rt.forever() {
         if ended.load(Ordering::SeqCst) {
             break;
         }
-        let looked = look(alloc, destination, stuck, net, seated);
+        let looked = look(alloc, destination, stuck, net, seat);
         pauses = rest_after(net, ended, &looked, stuck, pauses);
         stuck = looked.stuck;
     }

@@ -1,8 +1,12 @@
 //! Telling what holds the forwarding up.
-ghost use Rattle.std.specs.Prelude.{◌≡◌, ◌^◌, ℕ, List, length, IfOk, IfSome};
+ghost use Rattle.std.specs.Prelude.{◌≡◌, ◌↔◌, ◌^◌, ℕ, List, length, None, Some, IfOk, IfSome, IsTrue, slice_get};
+ghost use Rattle.forward_core.specs.declared.sent.Sent.TheVariants.{Drained};
 ghost use Rattle.event_form.specs.Event.{IsEvent};
+ghost use Rattle.edge_io.specs.declared.held_up.HeldUp.{HeldUp};
 ghost use Rattle.spool_answers.specs.Pend.{AreNumbered};
+ghost use Rattle.spool_answers.specs.declared.numbered.Numbered.{Numbered};
 ghost use Rattle.serve_forwarder.specs.Held.{IsTextBy};
+ghost use Rattle.serve_forwarder.specs.Reported.{TellsOf, code_of};
 
 use crate::Destination;
 use edge_io::{HeldUp, Net, Proto};
@@ -35,9 +39,32 @@ fn len_by(alloc: Global, proto: Proto, event: &Event) -> Option<u64>
     }
 }
 
+// Whether all was sent, and acknowledged.
+fn is_drained(sent: Sent) -> bool
+    ensures { IsTrue result ↔ (sent ≡ Drained) }
+{
+    match sent {
+        Sent::Drained => true,
+        _ => false,
+    }
+}
+
+// The code with which the peer refused what was sent, where it did.
+fn code_of(sent: Sent) -> Option<u32>
+    ensures { result ≡ code_of sent }
+{
+    match sent {
+        Sent::Refused { code, .. } => Some(code),
+        _ => None,
+    }
+}
+
 /// Reports to the net, after a session that ended so and did not send all, what holds up the forwarding to the destination: the entry
 /// that was pending first, where the session was to end at `upto` and so offered that one alone. Where it offered others too, the receiver
 /// may have refused one of those. It changes nothing that the net tells.
+///
+/// `reports` is all the leave that it has: of the first entry and of this ending it may be reported (`TellsOf`), where one entry alone was
+/// offered.
 pub(crate) fn report_held_up<N: Net>(
     alloc: Global,
     destination: &Destination,
@@ -46,15 +73,13 @@ pub(crate) fn report_held_up<N: Net>(
     sent: Sent,
     net: &mut N,
 )
-    requires { AreNumbered 0 (2 ^ 63) given.now.items }
+    requires numbered { AreNumbered 0 (2 ^ 63) given.now.items }
+    requires reports { (first : Numbered) (held_up : HeldUp) → slice_get given.now.items 0 ≡ Some first → (upto ≡ None → ⊥)
+        → TellsOf destination.now.outward.proto first sent held_up → N.may_report destination.now.place held_up }
+
     ensures { N.told net.new ≡ N.told net.old }
 {
-    let code = match sent {
-        Sent::Drained => return,
-        Sent::Refused { code, .. } => Some(code),
-        _ => None,
-    };
-    if upto.is_none() {
+    if is_drained(sent) || upto.is_none() {
         return;
     }
     let Some(first) = given.first() else {
@@ -65,7 +90,7 @@ pub(crate) fn report_held_up<N: Net>(
         number: first.number,
         proto,
         len: len_by(alloc, proto, &first.entry.event),
-        code,
+        code: code_of(sent),
     };
     net.report_held_up(destination.place.as_str(), &held_up);
 }

@@ -1,21 +1,19 @@
 //! One look at what is pending.
 ghost use Rattle.std.specs.Prelude.{◌≡◌, ◌+◌, ◌<◌, ◌^◌, Ok, Some, IfOk, IfErr};
 ghost use Rattle.forward_core.specs.Exchanged.{HasExchangedAt};
-ghost use Rattle.spool_turns.specs.Replays.{IsReal};
 ghost use Rattle.serve_forwarder.specs.Sessions.{Holds, caller_by};
 ghost use Rattle.serve_forwarder.specs.Looks.{FailsDial, LooksOnce, first_of, forwarder_at, offer_at, stuck_from, upto_of};
 ghost use Rattle.serve_forwarder.specs.Released.{MayEarn, MayRelease, link_by};
+ghost use Rattle.serve_forwarder.specs.Reported.{MayReport};
 
 use crate::Destination;
 use crate::held::report_held_up;
 use desk_access::Access;
-use edge_disk::Disk;
+use desk_seats::Seat;
 use edge_io::{Net, NetFault};
 use forward_core::{Sent, forward};
 use spool_answers::{Numbered, PendFault};
-use spool_turns::{Naming, Seated};
 use std::alloc::Global;
-use std::sync::Wait;
 
 /// What came of a look.
 #[derive(Clone, Copy, PartialEq, Eq)]
@@ -87,8 +85,9 @@ fn hold<N: Net, A: Access>(
     requires earned { MayEarn (caller_by A.ran A.cursor_known A.end_known A.seen) (link_by N.L.same N.L.dialed N.L.given N.L.taken)
         destination.now upto access.old A.may_release }
 
-    ensures held { IfOk result (λ sent. Holds (caller_by A.ran A.cursor_known A.end_known A.seen) destination.now upto
-        (access.old, N.told net.old) (access.new, N.told net.new) sent) }
+    ensures held { IfOk result (λ sent. (holds : Holds (caller_by A.ran A.cursor_known A.end_known A.seen) destination.now upto
+        (access.old, N.told net.old) (access.new, N.told net.new) sent)
+        × HasExchangedAt N.L.same N.L.dialed N.L.given N.L.taken destination.now.place holds.one.bytes holds.one.text) }
     ensures undialed { IfErr result (λ fault. (access.new ≡ access.old) × FailsDial fault (N.told net.old) (N.told net.new)) }
 {
     let mut link = match net.dial(destination.place.as_str()) {
@@ -116,28 +115,32 @@ fn hold<N: Net, A: Access>(
 /// the destination, above 0, is how often at most a collector is asked whether a request is acknowledged.
 ///
 /// `earned` is the leave to make numbers known as confirmed, which the caller gives: a number may become known once the peer at the
-/// place has acknowledged its entry (`MayRelease`). No other number does, also where the session never ends.
+/// place has acknowledged its entry (`MayRelease`). No other number does, also where the session never ends. `reports` is the leave to tell
+/// the net what holds the forwarding up: the entry that a session offered alone and that was not acknowledged then, and how that session
+/// ended (`MayReport`).
 ///
 /// Where the desk is in doubt, as after a call of the disk that failed, the question first finds out what the disk holds. `Unread`
 /// comes where the desk refuses the question, `Undialed` where the dial fails or finds no memory. At each outcome but `Held` the
 /// question was the only call on the desk.
-pub fn look<N: Net, D: Disk, J: Naming, R: Wait>(
+pub fn look<N: Net, S: Seat>(
     alloc: Global,
     destination: &Destination,
     stuck: Option<u64>,
     net: &mut N,
-    seated: &mut Seated<'_, D, J, R>,
+    seat: &mut S,
 ) -> Looked
-    requires confirms { seated.old.pass.number + 1 ≡ J.seats }
+    requires confirms { (S.knows seat.old).number + 1 ≡ S.seats }
     requires polls { 0 < destination.now.outward.polls }
     requires named { N.may_dial destination.now.place }
-    requires earned { MayRelease (IsReal D.Disk J.start J.run J.seats J.began) J.start destination.now.outward
-        (HasExchangedAt N.L.same N.L.dialed N.L.given N.L.taken destination.now.place) D.may_release }
+    requires earned { MayRelease S.is_real S.start destination.now.outward
+        (HasExchangedAt N.L.same N.L.dialed N.L.given N.L.taken destination.now.place) S.may_release }
+    requires reports { MayReport S.is_real S.start destination.now.outward
+        (HasExchangedAt N.L.same N.L.dialed N.L.given N.L.taken destination.now.place) (N.may_report destination.now.place) }
 
-    ensures { LooksOnce J.start destination.now stuck (forwarder_at seated.old.pass (N.told net.old))
-        (forwarder_at seated.new.pass (N.told net.new)) result }
+    ensures { LooksOnce S.start destination.now stuck (forwarder_at (S.knows seat.old) (N.told net.old))
+        (forwarder_at (S.knows seat.new) (N.told net.new)) result }
 {
-    let given = match seated.pending(0, 1) {
+    let given = match seat.pending(0, 1) {
         Ok(given) => given,
         Err(fault) => {
             return Looked {
@@ -156,7 +159,7 @@ pub fn look<N: Net, D: Disk, J: Naming, R: Wait>(
         }
     };
     let upto = upto_at(stuck, first);
-    match hold(alloc, destination, upto, net, seated) {
+    match hold(alloc, destination, upto, net, seat) {
         Ok(sent) => {
             report_held_up(alloc, destination, &given, upto, sent, net);
             Looked {

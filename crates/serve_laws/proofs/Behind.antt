@@ -10,8 +10,8 @@ use Rattle.desk_access.specs.Call.{Call, Record, own_of, calls_of}
 use Rattle.desk_access.specs.Desk.{DeskState}
 use Rattle.desk_access.specs.Journal.{own_then}
 use Rattle.conn_serve.specs.declared.rules.Rules.{Rules}
-use Rattle.spool_turns.specs.Passes.{Known, Stands}
-use Rattle.spool_turns.specs.Ran.{Ran}
+use Rattle.desk_seats.specs.Passes.{Known, Stands}
+use Rattle.desk_seats.specs.Ran.{Ran}
 use Rattle.spool_turns.specs.Replays.{HasNumber}
 use Rattle.serve_workers.specs.declared.worker.WorkerReport.{WorkerReport}
 use Rattle.serve_workers.specs.Crews.{AreNew, HaveWorked, returned_as, roster_as}

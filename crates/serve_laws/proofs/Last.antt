@@ -20,14 +20,15 @@ use Rattle.desk_access.proofs.Nexts.{all_left, all_right}
 use Rattle.desk_access.proofs.OneState.{one_state}
 use Rattle.desk_access.proofs.Steps.{goes_later}
 use Rattle.forward_core.specs.declared.outward.Outward.{Outward}
-use Rattle.spool_turns.specs.Passes.{Known}
-use Rattle.spool_turns.specs.Ran.{Ran}
+use Rattle.desk_seats.specs.Passes.{Known}
+use Rattle.desk_seats.specs.Ran.{Ran}
 use Rattle.serve_forwarder.specs.declared.destination.Destination.{Destination}
 use Rattle.serve_forwarder.specs.declared.looking.Outcome.{Outcome}
 use Rattle.serve_forwarder.specs.Sessions.{Session, IsHeld}
 use Rattle.serve_forwarder.specs.Looks.{Forwarder, Found, Idle, Unread, Undialed, Held, Look, forwarder_at, held_in, calls_at, Every, Offer, first_of, upto_of, IsFound, IsLook, IsPending}
 use Rattle.serve_forwarder.proofs.Chain.{look_is_ran}
-use Rattle.serve_run.specs.Running.{Forwarded, Seating}
+use Rattle.serve_run.specs.Running.{Forwarded}
+use Rattle.serve_desk.specs.Serving.{Seating}
 use Rattle.serve_laws.specs.Last.{EndsWith, IsFoundBy, SendsUpTo, IsLastOfAll, LastLookIsLast}
 use Rattle.serve_laws.specs.Runs.{ServerRun}
 use Rattle.serve_laws.proofs.Behind.{all_own}

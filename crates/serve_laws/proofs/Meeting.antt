@@ -9,8 +9,8 @@ use Rattle.desk_access.specs.Desk.{DeskState, Goes}
 use Rattle.desk_access.specs.History.{IsDesk}
 use Rattle.desk_access.specs.Journal.{own_then}
 use Rattle.desk_access.proofs.Nexts.{all_right}
-use Rattle.spool_turns.specs.Passes.{Known, Stands}
-use Rattle.spool_turns.specs.Ran.{Ran}
+use Rattle.desk_seats.specs.Passes.{Known, Stands}
+use Rattle.desk_seats.specs.Ran.{Ran}
 use Rattle.spool_turns.specs.Replays.{HasNumber}
 use Rattle.serve_forwarder.specs.declared.destination.Destination.{Destination}
 use Rattle.serve_forwarder.specs.declared.looking.Outcome.{Outcome}

@@ -7,8 +7,8 @@ use Rattle.desk_access.specs.Division.{DividedRun}
 use Rattle.desk_access.specs.Call.{Call, Record, own_of}
 use Rattle.desk_access.specs.Desk.{DeskState}
 use Rattle.conn_serve.specs.declared.rules.Rules.{Rules}
-use Rattle.spool_turns.specs.Passes.{Known, Stands}
-use Rattle.spool_turns.specs.Ran.{Ran}
+use Rattle.desk_seats.specs.Passes.{Known, Stands}
+use Rattle.desk_seats.specs.Ran.{Ran}
 use Rattle.serve_workers.specs.declared.worker.WorkerReport.{WorkerReport}
 use Rattle.serve_workers.specs.Works.{Dismissed, Posted, Worked, dismissed_as, posted_as}
 use Rattle.serve_workers.specs.Crews.{AreNew, HaveWorked, returned_as, roster_as}

@@ -12,10 +12,10 @@ use Rattle.desk_access.specs.Call.{Record, calls_of}
 use Rattle.desk_access.specs.Desk.{DeskState}
 use Rattle.desk_access.specs.Legal.{AddsGroups, IsLegal, Met}
 use Rattle.desk_access.proofs.Nexts.{all_left, all_right}
-use Rattle.spool_turns.specs.Passes.{Stands}
+use Rattle.desk_seats.specs.Passes.{Stands}
 use Rattle.spool_turns.specs.Replays.{Begins, HasNumber}
 use Rattle.serve_forwarder.specs.Looks.{Forwarder, forwarder_at}
-use Rattle.serve_run.specs.Running.{Seating}
+use Rattle.serve_desk.specs.Serving.{Seating}
 use Rattle.serve_laws.specs.Parts.{links_of}
 use Rattle.serve_laws.specs.Runs.{ServerRun}
 use Rattle.serve_laws.specs.Laws.{AcknowledgedIsDurable, ConnectionsContribute, DiskFaultsAreCounted, DoorsTellDurable, EndCountsEntries, NothingElseIsAdded, NothingIsLeft, OrderIsKept, OrderWasKept, ReportsCountLinks, WorkersHaveParts}

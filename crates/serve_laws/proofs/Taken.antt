@@ -17,7 +17,7 @@ use Rattle.desk_access.proofs.Added.{AllWritten}
 use Rattle.desk_access.proofs.Growth.{grown_end}
 use Rattle.desk_access.proofs.Lasting.{goes_grows}
 use Rattle.conn_serve.specs.declared.rules.Rules.{Rules}
-use Rattle.spool_turns.specs.Passes.{Known}
+use Rattle.desk_seats.specs.Passes.{Known}
 use Rattle.spool_turns.specs.Replays.{HasNumber}
 use Rattle.serve_workers.specs.Served.{calls_in}
 use Rattle.serve_forwarder.specs.Looks.{forwarder_at}

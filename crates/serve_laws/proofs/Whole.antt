@@ -17,7 +17,7 @@ use Rattle.conn_serve.specs.Terms.{terms_of}
 use Rattle.conn_serve.proofs.Indexing.{calls_are_of_conn}
 use Rattle.forward_core.specs.Calls.{AreOfSession, next_after}
 use Rattle.forward_core.specs.declared.outward.Outward.{Outward}
-use Rattle.spool_turns.specs.Passes.{Known}
+use Rattle.desk_seats.specs.Passes.{Known}
 use Rattle.spool_turns.specs.Replays.{HasNumber}
 use Rattle.serve_workers.specs.Served.{Served, AreServed, calls_in}
 use Rattle.serve_forwarder.specs.declared.destination.Destination.{Destination}

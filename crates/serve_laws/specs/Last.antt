@@ -8,7 +8,8 @@ use Rattle.desk_access.specs.Call.{Call, Record, calls_of}
 use Rattle.desk_access.specs.Desk.{DeskState, Goes}
 use Rattle.serve_forwarder.specs.Sessions.{Session}
 use Rattle.serve_forwarder.specs.Looks.{Found, Idle, Unread, Undialed, Held, Look, forwarder_at, held_in, calls_at, IsPending}
-use Rattle.serve_run.specs.Running.{Forwarded, Seating}
+use Rattle.serve_run.specs.Running.{Forwarded}
+use Rattle.serve_desk.specs.Serving.{Seating}
 use Rattle.serve_laws.specs.Runs.{ServerRun}
 
 -- The journal ends with these calls of that caller: after the first of them stands no other caller's record.

@@ -11,10 +11,11 @@ use Rattle.desk_access.specs.Call.{Record, calls_of, failures_of}
 use Rattle.desk_access.specs.Desk.{DeskState, Goes}
 use Rattle.desk_access.specs.History.{AddsAll}
 use Rattle.desk_access.specs.Legal.{of_conn}
-use Rattle.spool_turns.specs.Passes.{Known}
+use Rattle.desk_seats.specs.Passes.{Known}
 use Rattle.spool_turns.specs.Replays.{Closes}
 use Rattle.spool_turns.specs.Whole.{OpensLegal}
-use Rattle.serve_run.specs.Running.{Given, Left, Seating}
+use Rattle.serve_run.specs.Running.{Given, Left}
+use Rattle.serve_desk.specs.Serving.{Seating}
 use Rattle.serve_laws.specs.Runs.{ServerRun}
 use Rattle.serve_laws.specs.Parts.{Part, WorkerDoor, links_of, IsPart, AreParts}
 use Rattle.serve_laws.specs.Faults.{CountsEnded}

@@ -2,7 +2,8 @@
 use Rattle.std.specs.Prelude.{◌≡◌, ◌+◌, length}
 use Rattle.spool_desk.specs.Alone.{AloneView}
 use Rattle.desk_access.specs.Desk.{DeskState}
-use Rattle.serve_run.specs.Running.{Given, HasServed, Left, Seating}
+use Rattle.serve_run.specs.Running.{Given, Left}
+use Rattle.serve_desk.specs.Serving.{HasServed, Seating}
 
 -- What `serve` says of a run that left the desk so. There is one door and one report for each worker, in the order of the rules, and
 -- one pass more than that, the forwarder's.

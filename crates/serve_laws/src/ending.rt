@@ -1,6 +1,6 @@
 //! How the journal of a run ends.
 ghost use Rattle.spool_turns.specs.Replays.{desk_at};
-ghost use Rattle.serve_run.specs.Running.{seating_as};
+ghost use Rattle.serve_desk.specs.Serving.{seating_as};
 ghost use Rattle.serve_laws.specs.Last.{LastLookIsLast};
 
 use edge_disk::Disk;

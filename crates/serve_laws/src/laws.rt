@@ -1,6 +1,6 @@
 //! What holds of runs of the server. These functions do nothing: each has a law as its contract.
 ghost use Rattle.spool_turns.specs.Replays.{desk_at};
-ghost use Rattle.serve_run.specs.Running.{seating_as};
+ghost use Rattle.serve_desk.specs.Serving.{seating_as};
 ghost use Rattle.serve_laws.specs.Laws.{AcknowledgedIsDurable, ConnectionsContribute, DiskFaultsAreCounted, DoorsTellDurable, EndCountsEntries};
 ghost use Rattle.serve_laws.specs.Laws.{NothingElseIsAdded, NothingIsLeft, OrderIsKept, OrderWasKept, ReportsCountLinks, WorkersHaveParts};
 

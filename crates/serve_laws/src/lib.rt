@@ -1,5 +1,5 @@
 //! What a run of the server promises to those who send to it, and in numbers to whoever runs it, as laws over what
-//! [`serve_run::serve`] says: what is acknowledged is durable, each connection contributes exactly its events, nothing is left where the
+//! [`serve_desk::serve`] says: what is acknowledged is durable, each connection contributes exactly its events, nothing is left where the
 //! last look says so, and the counts agree.
 //!
 //! The functions do nothing: each has a law as its contract. The definitions in `specs/` have plain parameters, so that a crate that

@@ -1,2 +1,1 @@
 mod Seeing
-mod Leaving

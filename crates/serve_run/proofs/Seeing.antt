@@ -4,8 +4,8 @@ use Rattle.std.proofs.lemmas.List.Elements.{All-nil, All-push, All-weaker}
 use mathlib.Core.List.{IsPrefix}
 use Rattle.desk_access.specs.Desk.{DeskState}
 use Rattle.forward_core.specs.declared.outward.Outward.{Outward}
-use Rattle.spool_turns.specs.Passes.{Known}
-use Rattle.spool_turns.specs.Own.{prefix_self}
+use Rattle.desk_seats.specs.Passes.{Known}
+use Rattle.desk_seats.specs.Own.{prefix_self}
 use Rattle.serve_forwarder.specs.declared.destination.Destination.{Destination}
 use Rattle.serve_forwarder.specs.Looks.{Forwarder, Found, Idle, Unread, Undialed, Held, Look, IsFound, AreLooks}
 use Rattle.serve_run.specs.Running.{HasMet}

@@ -3,16 +3,14 @@ use Rattle.std.specs.Prelude.{◌≡◌, ℕ, List, [], ◌∷◌, ◌++◌, len
 use mathlib.Core.List.{IsPrefix}
 use Rattle.edge_io.specs.Door.{DoorState}
 use Rattle.edge_io.specs.Net.{NetState}
-use Rattle.spool_desk.specs.Alone.{AloneView}
 use Rattle.desk_access.specs.Division.{DividedRun}
-use Rattle.desk_access.specs.Call.{Record}
 use Rattle.desk_access.specs.Desk.{DeskState}
 use Rattle.conn_serve.specs.declared.rules.Rules.{Rules}
-use Rattle.spool_turns.specs.Passes.{Beginning, Known}
-use Rattle.spool_turns.specs.Replays.{Closes}
+use Rattle.desk_seats.specs.Passes.{Known}
 use Rattle.serve_workers.specs.declared.crew.Post.{Post}
 use Rattle.serve_workers.specs.declared.worker.WorkerReport.{WorkerReport}
 use Rattle.serve_workers.specs.Crews.{AreNew, HaveWorked, roster_as, returned_as}
+use Rattle.serve_run.specs.declared.running.CrewAndLook.{CrewAndLook}
 use Rattle.serve_forwarder.specs.declared.destination.Destination.{Destination}
 use Rattle.serve_forwarder.specs.declared.looking.Outcome.{Outcome}
 use Rattle.serve_forwarder.specs.Looks.{Every, Forwarder, Look, IsLook, AreInTurn, AreLooks, forwarder_at, outcome_of}
@@ -50,15 +48,6 @@ Forwarded start None workers old new last = (new.pass.number ≡ old.pass.number
 Forwarded start (Some destination) workers old new last =
     (outcome : Outcome) × (last ≡ Some outcome) × HasForwarded start destination workers old new outcome
 
--- The run by which a desk was opened, how many have a seat at it, and how it began.
-pub record Seating : Type 1 where
-  pub run : DividedRun
-  pub seats : ℕ
-  pub began : Beginning
-
-abbrev pub seating_as : DividedRun → ℕ → Beginning → Seating
-seating_as run seats began = record { run = run; seats = seats; began = began }
-
 -- What a run is given: how many links each worker serves at most, the rules and the doors in the order of the workers, the destination,
 -- if there is one, and the net.
 pub record Given : Type 0 where
@@ -85,6 +74,10 @@ pub record Left : Type 0 where
 abbrev pub left_as : List DoorState → List WorkerReport → NetState → Option Outcome → Left
 left_as doors reports net last = record { doors = doors; reports = reports; net = net; last = last }
 
+-- the same of the crew and the last look, by what a door tells and what the net tells then
+abbrev pub left_by : {P S L K : Type 0} → (P → DoorState) → CrewAndLook P S L K → NetState → Left
+left_by told ran net = left_as (map told ran.crew.doors.items) ran.crew.reports.items net ran.last
+
 -- What the workers and the forwarder did. The lists of passes are in the order of the workers; the forwarder's pass comes after theirs.
 pub record HasRun (start : DeskState → Type 0) (run : DividedRun) (given : Given) (left : Left) (passes passes' : List Known) : Type 0 where
   pub workers : List Known
@@ -96,22 +89,3 @@ pub record HasRun (start : DeskState → Type 0) (run : DividedRun) (given : Giv
   pub count : (length workers ≡ length given.rules) × (length workers' ≡ length given.rules)
   pub worked : HaveWorked start run given.talks (roster_as given.rules given.doors workers) (returned_as left.doors workers' left.reports)
   pub forwarded : Forwarded start given.destination workers' (forwarder_at forwarder given.net) (forwarder_at forwarder' left.net) left.last
-
--- One journal of all calls led to the desk that comes back. Each worker's part of it is the calls of the links that it served at its
--- door. The part of the forwarder, whose pass has the greatest number, is the calls of its looks. All lists are in the order of the
--- workers.
-pub record HasServed (tells : Type 0) (start : DeskState → Type 0) (seating : Seating) (given : Given) (left : Left) (new : AloneView) : Type 0 where
-  pub log : List Record
-  pub workers : List Known
-  pub workers' : List Known
-  pub forwarder : Known
-  pub forwarder' : Known
-  pub fresh : AreNew 0 (workers ++ forwarder ∷ [])
-  pub count : (length workers ≡ length given.rules) × (length workers' ≡ length given.rules)
-  pub closes : Closes tells start seating.run seating.seats seating.began log (workers' ++ forwarder' ∷ []) new
-  pub worked : HaveWorked start seating.run given.talks (roster_as given.rules given.doors workers) (returned_as left.doors workers' left.reports)
-  pub forwarded : Forwarded start given.destination workers' (forwarder_at forwarder given.net) (forwarder_at forwarder' left.net) left.last
-
--- No call was made on the desk.
-abbrev pub HasNotServed : Type 0 → (DeskState → Type 0) → Seating → AloneView → Type 0
-HasNotServed tells start seating new = (passes : List Known) × Closes tells start seating.run seating.seats seating.began [] passes new

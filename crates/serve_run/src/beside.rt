@@ -1,60 +1,59 @@
-//! Workers, and a forwarder beside them, with those who are told how the spool stands.
+//! Workers, and a forwarder beside them, with a task of the caller's.
 ghost use Rattle.std.specs.Prelude.{◌≡◌, ◌+◌, ◌<◌, ◌^◌, ◌≤◌, List, None, IfSome, length, map, vec_len};
 ghost use Rattle.desk_access.specs.Division.{each_of};
 ghost use Rattle.std.specs.Vec.{vec_capacity};
 ghost use Rattle.forward_core.specs.Exchanged.{HasExchangedAt};
-ghost use Rattle.spool_turns.specs.Levels.{HasLevel};
-ghost use Rattle.spool_turns.specs.Replays.{IsReal};
 ghost use Rattle.serve_workers.specs.Crews.{AreNew, HaveWorked, returned_as};
 ghost use Rattle.serve_forwarder.specs.Looks.{AreInTurn, AreLooks, Look, forwarder_at};
 ghost use Rattle.serve_forwarder.specs.Released.{MayRelease};
-ghost use Rattle.serve_run.specs.Telling.{MayTell};
+ghost use Rattle.serve_forwarder.specs.Reported.{MayReport};
 
-use crate::reporting::work_beside_and_tell;
-use crate::working::Task;
-use edge_disk::Disk;
+use crate::working::{Task, work_beside, work_beside_any};
+use desk_seats::Seat;
 use edge_io::{Door, Net};
 use serve_forwarder::{Destination, forward_beside};
 use serve_workers::{Crew, Hired};
-use spool_turns::{Naming, Pass, Seated};
 use std::alloc::Global;
 use std::sync::Wait;
 use std::sync::atomic::{AtomicBool, Ordering};
 use std::thread::Threads;
 
-// The forwarder as a task: it looks until the workers have ended, and hands back the net that it was lent, and its pass.
+// The forwarder as a task: it looks until the workers have ended, and hands back the net that it was lent, and its seat.
 #[derive(Drop)]
-struct Forwarding<'a, N: Net, D: Disk, J: Naming, R: Wait> {
+struct Forwarding<'a, N: Net, S: Seat, R: Wait> {
+    rt: &'a R,
     alloc: Global,
     destination: &'a Destination,
     net: &'a mut N,
-    seated: Seated<'a, D, J, R>,
+    seat: S,
     ended: &'a AtomicBool,
 }
 
-impl<'a, N: Net, D: Disk + Drop, J: Naming, R: Wait> Task for Forwarding<'a, N, D, J, R> {
-    type Output = (&'a mut N, Pass<J>);
+impl<'a, N: Net, S: Seat, R: Wait> Task for Forwarding<'a, N, S, R> {
+    type Output = (&'a mut N, S);
 
-    ghost can_run = { λ t. (t.seated.pass.number + 1 ≡ J.seats) × (0 < t.destination.now.outward.polls)
+    ghost can_run = { λ t. ((S.knows t.seat).number + 1 ≡ S.seats) × (0 < t.destination.now.outward.polls)
         × N.may_dial t.destination.now.place
-        × MayRelease (IsReal D.Disk J.start J.run J.seats J.began) J.start t.destination.now.outward
-        (HasExchangedAt N.L.same N.L.dialed N.L.given N.L.taken t.destination.now.place) D.may_release };
+        × MayRelease S.is_real S.start t.destination.now.outward
+        (HasExchangedAt N.L.same N.L.dialed N.L.given N.L.taken t.destination.now.place) S.may_release
+        × MayReport S.is_real S.start t.destination.now.outward
+        (HasExchangedAt N.L.same N.L.dialed N.L.given N.L.taken t.destination.now.place) (N.may_report t.destination.now.place) };
 
     ghost leaves = { λ t r. (r.0.ghost_name ≡ t.net.ghost_name)
-        × ((looks : List Look) × AreLooks J.start t.destination.now looks (forwarder_at t.seated.pass (N.told t.net.now))
-        (forwarder_at r.1 (N.told r.0.now)) × AreInTurn None looks) };
+        × ((looks : List Look) × AreLooks S.start t.destination.now looks (forwarder_at (S.knows t.seat) (N.told t.net.now))
+        (forwarder_at (S.knows r.1) (N.told r.0.now)) × AreInTurn None looks) };
 
-    fn run(self) -> (&'a mut N, Pass<J>) {
+    fn run(self) -> (&'a mut N, S) {
         let Forwarding {
+            rt,
             alloc,
             destination,
             net,
-            mut seated,
+            mut seat,
             ended,
         } = self;
-        forward_beside(alloc, destination, &mut *net, &mut seated, ended);
-        let Seated { pass, .. } = seated;
-        (net, pass)
+        forward_beside(rt, alloc, destination, &mut *net, &mut seat, ended);
+        (net, seat)
     }
 }
 
@@ -63,16 +62,16 @@ fn take_back<N>(net: &mut N)
     ensures { net.new ≡ net.old }
 {}
 
-/// Has the workers work, and forwards beside them until they have ended. Where there is a monitor, those who ask there are answered
-/// meanwhile. It answers the forwarder's pass and what the workers leave.
+/// Has the workers work, and forwards beside them until they have ended. Where there is another task, it is done meanwhile. It answers the
+/// forwarder's seat and what the workers leave. `ended` is set once the workers have ended.
 ///
 /// The forwarder has a thread of its own. Where none can be made it comes last, once the workers have ended, and leaves all to the
 /// last look.
 pub(crate) fn work_and_forward<
     P: Door + Drop + Send,
-    D: Disk + Drop + Send,
     N: Net + Send,
-    J: Naming + Send + Sync,
+    S: Seat + Send,
+    T: Task<Output = ()> + Send + Drop,
     R: Threads + Wait + Sync,
 >(
     rt: &R,
@@ -80,62 +79,111 @@ pub(crate) fn work_and_forward<
     talks: u32,
     destination: &Destination,
     net: &mut N,
-    monitor: Option<N::M>,
-    seated: Seated<'_, D, J, R>,
-    hired: Hired<'_, P, D, J, R>,
-) -> (Pass<J>, Crew<P, J>)
+    other: Option<T>,
+    ended: &AtomicBool,
+    seat: S,
+    hired: Hired<P, S>,
+) -> (S, Crew<P, S>)
 where
     P::L: Send,
+    S::Pass: Send,
     N::L: Send,
     N::P: Send,
-    N::M: Send + Drop,
+    N::M: Send,
     <N::P as Door>::L: Send,
     requires new { AreNew 0 hired.passes }
-    requires talks { talks ≤ each_of J.run.division }
-    requires confirms { seated.pass.number + 1 ≡ J.seats }
+    requires talks { talks ≤ each_of S.of_run.division }
+    requires confirms { (S.knows seat).number + 1 ≡ S.seats }
     requires polls { 0 < destination.now.outward.polls }
     requires named { N.may_dial destination.now.place }
-    requires earned { MayRelease (IsReal D.Disk J.start J.run J.seats J.began) J.start destination.now.outward
-        (HasExchangedAt N.L.same N.L.dialed N.L.given N.L.taken destination.now.place) D.may_release }
-    requires tells { IfSome monitor (λ _. MayTell (HasLevel D.Disk J.start J.run J.seats J.began) J.run.number N.M.may_tell) }
+    requires earned { MayRelease S.is_real S.start destination.now.outward
+        (HasExchangedAt N.L.same N.L.dialed N.L.given N.L.taken destination.now.place) S.may_release }
+    requires reports { MayReport S.is_real S.start destination.now.outward
+        (HasExchangedAt N.L.same N.L.dialed N.L.given N.L.taken destination.now.place) (N.may_report destination.now.place) }
+    requires other { IfSome other T.can_run }
 
-    ensures worked { HaveWorked J.start J.run talks hired.entry
-        (returned_as (map (λ (door : _). P.told door) result.1.doors.items) result.1.passes.items result.1.reports.items) }
-    ensures many { (vec_len result.1.doors ≡ length hired.entry.passes) × (vec_len result.1.passes ≡ length hired.entry.passes)
-        × (vec_len result.1.reports ≡ length hired.entry.passes) }
+    ensures worked { HaveWorked S.start S.of_run talks hired
+        (returned_as (map (λ (door : _). P.told door) result.1.doors.items) (map S.pass_knows result.1.passes.items) result.1.reports.items) }
+    ensures many { (vec_len result.1.doors ≡ length hired.passes) × (vec_len result.1.passes ≡ length hired.passes)
+        × (vec_len result.1.reports ≡ length hired.passes) }
     ensures room { vec_len result.1.passes < vec_capacity result.1.passes }
-    ensures looked { (looks : List Look) × AreLooks J.start destination.now looks (forwarder_at seated.entry.pass (N.told net.old))
-        (forwarder_at result.0 (N.told net.new)) × AreInTurn None looks }
+    ensures looked { (looks : List Look) × AreLooks S.start destination.now looks (forwarder_at (S.knows seat) (N.told net.old))
+        (forwarder_at (S.knows result.0) (N.told net.new)) × AreInTurn None looks }
 {
-    let flag = AtomicBool::new(false);
-    let ended = &flag;
-    let shared = seated.shared;
     let forwarding = Forwarding {
+        rt,
         alloc,
         destination,
         net,
-        seated,
+        seat,
         ended,
     };
-    let ((net, pass), crew) = work_beside_and_tell(
+    let ((net, seat), crew) = work_beside_any(
         rt,
         forwarding,
-        move || -> Crew<P, J>
-            requires { AreNew 0 hired.passes × (talks ≤ each_of J.run.division) }
-            ensures worked { HaveWorked J.start J.run talks hired.entry
-                (returned_as (map (λ (door : _). P.told door) result.doors.items) result.passes.items result.reports.items) }
-            ensures many { (vec_len result.doors ≡ length hired.entry.passes) × (vec_len result.passes ≡ length hired.entry.passes)
-                × (vec_len result.reports ≡ length hired.entry.passes) }
+        other,
+        move || -> Crew<P, S>
+            requires { AreNew 0 hired.passes × (talks ≤ each_of S.of_run.division) }
+            ensures worked { HaveWorked S.start S.of_run talks hired
+                (returned_as (map (λ (door : _). P.told door) result.doors.items) (map S.pass_knows result.passes.items) result.reports.items) }
+            ensures many { (vec_len result.doors ≡ length hired.passes) × (vec_len result.passes ≡ length hired.passes)
+                × (vec_len result.reports ≡ length hired.passes) }
             ensures room { vec_len result.passes < vec_capacity result.passes }
         {
             let crew = hired.work(rt, alloc, talks);
             ended.store(true, Ordering::SeqCst);
             crew
         },
-        monitor,
-        shared,
-        ended,
     );
     take_back(net);
-    (pass, crew)
+    (seat, crew)
+}
+
+/// Has the workers work. Where there is another task, it is done meanwhile. `ended` is set once the workers have ended.
+pub(crate) fn work_with<
+    P: Door + Drop + Send,
+    S: Seat + Send,
+    T: Task<Output = ()> + Send + Drop,
+    R: Threads + Sync,
+>(
+    rt: &R,
+    alloc: Global,
+    talks: u32,
+    other: Option<T>,
+    ended: &AtomicBool,
+    hired: Hired<P, S>,
+) -> Crew<P, S>
+where
+    P::L: Send,
+    S::Pass: Send,
+    requires other { IfSome other T.can_run }
+    requires new { AreNew 0 hired.passes }
+    requires talks { talks ≤ each_of S.of_run.division }
+
+    ensures worked { HaveWorked S.start S.of_run talks hired
+        (returned_as (map (λ (door : _). P.told door) result.doors.items) (map S.pass_knows result.passes.items) result.reports.items) }
+    ensures many { (vec_len result.doors ≡ length hired.passes) × (vec_len result.passes ≡ length hired.passes)
+        × (vec_len result.reports ≡ length hired.passes) }
+    ensures room { vec_len result.passes < vec_capacity result.passes }
+{
+    let Some(other) = other else {
+        return hired.work(rt, alloc, talks);
+    };
+    let ((), crew) = work_beside(
+        rt,
+        other,
+        move || -> Crew<P, S>
+            requires { AreNew 0 hired.passes × (talks ≤ each_of S.of_run.division) }
+            ensures worked { HaveWorked S.start S.of_run talks hired
+                (returned_as (map (λ (door : _). P.told door) result.doors.items) (map S.pass_knows result.passes.items) result.reports.items) }
+            ensures many { (vec_len result.doors ≡ length hired.passes) × (vec_len result.passes ≡ length hired.passes)
+                × (vec_len result.reports ≡ length hired.passes) }
+            ensures room { vec_len result.passes < vec_capacity result.passes }
+        {
+            let crew = hired.work(rt, alloc, talks);
+            ended.store(true, Ordering::SeqCst);
+            crew
+        },
+    );
+    crew
 }

@@ -1,15 +1,16 @@
 //! A run of the server over one desk. Workers at their doors store what comes in, and a forwarder beside them sends it on. Once the
-//! workers have ended, what is left is forwarded once more, and the desk is closed. Who asks meanwhile is told how the spool stands.
+//! workers have ended, what is left is forwarded once more.
 //!
-//! [`serve`] does all of it. Its contract, `HasServed`, says that one journal of all calls led to the desk that comes back: each
-//! worker's part of it is the calls of the links that it served, and the forwarder's part is the calls of its looks and their
-//! sessions.
+//! [`run`] does all of it. Its contract, `HasRun`, says what each worker's pass and the forwarder's did: the calls of a worker are those
+//! of the links that it served, and the forwarder's are those of its looks and their sessions. It knows the desk by the seats that
+//! are taken there alone ([`desk_seats::Seat`]). Whoever opens the desk and closes it stands above. A [`Task`] may be done meanwhile, as
+//! answering those who ask how the spool stands.
 #![tactic(auto)]
 
 mod beside;
 mod meeting;
-mod reporting;
 mod running;
 mod working;
 
-pub use running::{Served, Unserved, serve};
+pub use running::{CrewAndLook, run};
+pub use working::Task;

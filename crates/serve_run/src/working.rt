@@ -1,9 +1,11 @@
 //! Tasks that are done beside the work of others.
+ghost use Rattle.std.specs.Prelude.{IfSome};
+
 use std::thread::{Threads, join};
 
 /// Something that is done once, in a thread of its own. Each `&mut` that it was lent comes back in its output, since a join says
 /// nothing of what was written through a reference.
-pub(crate) trait Task {
+pub trait Task {
     /// What it hands back.
     type Output;
 
@@ -73,4 +75,26 @@ pub(crate) fn work_beside_both<
         { work_beside(rt, task, work) },
     );
     worked
+}
+
+/// Has the task done beside the work of others as by [`work_beside`], and the other one too, where there is one.
+pub(crate) fn work_beside_any<
+    S: Task<Output = A> + Send + Drop,
+    A: Send,
+    T: Task<Output = ()> + Send + Drop,
+    W: FnOnce() -> C,
+    C,
+    R: Threads,
+>(rt: &R, task: S, other: Option<T>, work: W) -> (A, C)
+    requires task { S.can_run task }
+    requires other { IfSome other T.can_run }
+    requires work { W.pre work }
+
+    ensures task { S.leaves task result.0 }
+    ensures work { W.post work result.1 }
+{
+    match other {
+        Some(other) => work_beside_both(rt, task, other, work),
+        None => work_beside(rt, task, work),
+    }
 }

@@ -23,12 +23,12 @@ use Rattle.conn_serve.specs.Numbering.{IsOfConn, AreOfConn}
 use Rattle.conn_serve.specs.Terms.{terms_of}
 use Rattle.conn_serve.proofs.Indexing.{calls_are_of_conn}
 use Rattle.conn_serve.proofs.Failing.{disk_fault_is_told}
-use Rattle.spool_turns.specs.Passes.{Known}
-use Rattle.spool_turns.specs.Ran.{Ran, ran_none, ran_more}
+use Rattle.desk_seats.specs.Passes.{Known}
+use Rattle.desk_seats.specs.Ran.{Ran, ran_none, ran_more}
 use Rattle.serve_workers.specs.declared.worker.WorkerEnd.{WorkerEnd}
 use Rattle.serve_workers.specs.declared.worker.WorkerEnd.TheVariants.{Shut, Enough, AcceptFault, NoMemory}
 use Rattle.serve_workers.specs.declared.worker.WorkerReport.{WorkerReport}
-use Rattle.serve_workers.specs.Served.{Served, Links, AtDoor, links_as, AreServed, calls_in, how_many, by_disk}
+use Rattle.serve_workers.specs.Served.{Served, Links, AtDoor, links_as, links_in, AreServed, calls_in, how_many, by_disk}
 use Rattle.serve_workers.specs.Works.{ServesLink, EndsBy, Stops, Worked, posted_as, dismissed_as}
 use Rattle.serve_workers.specs.Crews.{IsReady}
 use Rattle.serve_workers.proofs.Joining.{Done, at_door_of, done_of, done_none, done_then}
@@ -162,11 +162,11 @@ works_enough start run rules many talks old new pass pass' all w =
       disk_faults = disk_faults rules (first_conn run pass.number) (w.finished ++ []) done.served;
     }
 
--- ---- the calls alone, of calls of which more is known
+-- ---- calls of which more, or other things, are known
 
-door_plain : (rules : Rules) (first : ℕ) (old new : DoorState) (made more : List Call → Type 0) (links : Links) → AtDoor rules first old new (λ calls. made calls × more calls) links → AtDoor rules first old new made links
-door_plain rules first old new made more links d = record {
-  calls = d.calls.0;
+door_by : (rules : Rules) (first : ℕ) (old new : DoorState) (made known : List Call → Type 0) (links : Links) → ((calls : List Call) → made calls → known calls) → AtDoor rules first old new made links → AtDoor rules first old new known links
+door_by rules first old new made known links by d = record {
+  calls = by (calls_in (links_in links)) d.calls;
   served = d.served;
   talks = d.talks;
   place = d.place;
@@ -176,8 +176,8 @@ door_plain rules first old new made more links d = record {
   writes = d.writes;
 }
 
-pub serves_plain : (rules : Rules) (conn : ℕ) (old new : DoorState) (made more : List Call → Type 0) → ServesLink rules conn old new (λ calls. made calls × more calls) → ServesLink rules conn old new made
-serves_plain rules conn old new made more s = (s.0, door_plain rules conn old new made more _ s.1, s.2)
+pub serves_by : (rules : Rules) (conn : ℕ) (old new : DoorState) (made known : List Call → Type 0) → ((calls : List Call) → made calls → known calls) → ServesLink rules conn old new made → ServesLink rules conn old new known
+serves_by rules conn old new made known by s = (s.0, door_by rules conn old new made known _ by s.1, s.2)
 
-pub stops_plain : (rules : Rules) (conn : ℕ) (old new : DoorState) (made more : List Call → Type 0) (end : WorkerEnd) → Stops rules conn old new (λ calls. made calls × more calls) end → Stops rules conn old new made end
-stops_plain rules conn old new made more end s = record { late = s.late; at_door = door_plain rules conn old new made more _ s.at_door; ends = s.ends; accept_faults = s.accept_faults }
+pub stops_by : (rules : Rules) (conn : ℕ) (old new : DoorState) (made known : List Call → Type 0) (end : WorkerEnd) → ((calls : List Call) → made calls → known calls) → Stops rules conn old new made end → Stops rules conn old new known end
+stops_by rules conn old new made known end by s = record { late = s.late; at_door = door_by rules conn old new made known _ by s.at_door; ends = s.ends; accept_faults = s.accept_faults }

@@ -8,7 +8,7 @@ use Rattle.edge_io.specs.Door.{DoorState}
 use Rattle.desk_access.specs.Division.{DividedRun}
 use Rattle.desk_access.specs.Desk.{DeskState}
 use Rattle.conn_serve.specs.declared.rules.Rules.{Rules}
-use Rattle.spool_turns.specs.Passes.{Known, fresh}
+use Rattle.desk_seats.specs.Passes.{Known, fresh}
 use Rattle.serve_workers.specs.declared.worker.WorkerReport.{WorkerReport}
 use Rattle.serve_workers.specs.Works.{Posted, Dismissed, Worked, posted_as, dismissed_as}
 use Rattle.serve_workers.specs.Crews.{AreNew, Each, IsAtDesk, IsReady, Roster, Returned, HaveWorked, roster_as, returned_as}
@@ -78,18 +78,18 @@ of_first h [] ys same = refl
 of_first h (x ∷ xs) [] same = absurd (omega (arith, same))
 of_first {Z = Z} h (x ∷ xs) (y ∷ ys) same = ap (λ (l : List Z). h x ∷ l) (of_first h xs ys (omega (arith, same)))
 
-of_second : {X Y : Type 0} (xs : List X) (ys : List Y) → length xs ≡ length ys → map (λ (z : X × Y). z.1) (zip xs ys) ≡ ys
-of_second [] [] same = refl
-of_second [] (y ∷ ys) same = absurd (omega (arith, same))
-of_second (x ∷ xs) [] same = absurd (omega (arith, same))
-of_second {Y = Y} (x ∷ xs) (y ∷ ys) same = ap (λ (l : List Y). y ∷ l) (of_second xs ys (omega (arith, same)))
+of_second : {X Y Z : Type 0} (h : Y → Z) (xs : List X) (ys : List Y) → length xs ≡ length ys → map (λ (z : X × Y). h z.1) (zip xs ys) ≡ map h ys
+of_second h [] [] same = refl
+of_second h [] (y ∷ ys) same = absurd (omega (arith, same))
+of_second h (x ∷ xs) [] same = absurd (omega (arith, same))
+of_second {Z = Z} h (x ∷ xs) (y ∷ ys) same = ap (λ (l : List Z). h y ∷ l) (of_second h xs ys (omega (arith, same)))
 
 -- of pairs that are those of two lists
 pub firsts : {X Y Z : Type 0} (h : X → Z) (l : List (X × Y)) (xs : List X) (ys : List Y) → map (λ (p : X × Y). (p.0, p.1)) l ≡ zip xs ys → length xs ≡ length ys → map (λ (z : X × Y). h z.0) l ≡ map h xs
 firsts {X} {Y} h l xs ys is same = ap (map (λ (z : X × Y). h z.0)) (sym (pairs l) ∙ is) ∙ of_first h xs ys same
 
-pub seconds : {X Y : Type 0} (l : List (X × Y)) (xs : List X) (ys : List Y) → map (λ (p : X × Y). (p.0, p.1)) l ≡ zip xs ys → length xs ≡ length ys → map (λ (z : X × Y). z.1) l ≡ ys
-seconds {X} {Y} l xs ys is same = ap (map (λ (z : X × Y). z.1)) (sym (pairs l) ∙ is) ∙ of_second xs ys same
+pub seconds : {X Y Z : Type 0} (h : Y → Z) (l : List (X × Y)) (xs : List X) (ys : List Y) → map (λ (p : X × Y). (p.0, p.1)) l ≡ zip xs ys → length xs ≡ length ys → map (λ (z : X × Y). h z.1) l ≡ map h ys
+seconds {X} {Y} h l xs ys is same = ap (map (λ (z : X × Y). h z.1)) (sym (pairs l) ∙ is) ∙ of_second h xs ys same
 
 pub zip_few : {X Y : Type 0} (xs : List X) (ys : List Y) → length (zip xs ys) ≤ length xs
 zip_few [] ys = omega arith
@@ -104,12 +104,12 @@ pub ready_pushed : {X : Type 0} (P : X → Type 0) (old new : List X) (x : X) �
 ready_pushed P old new x is all here = subst (All P) (sym is) (all_more P old x all here)
 
 -- the pass at a place
-pub new_at : {X : Type 0} (number : ℕ) (xs : List X) (passes : List Known) (k : ℕ) (d : X × Known) → AreNew number passes → k < length (zip xs passes)
-    → ((get_or (zip xs passes) k d).1.number ≡ number + k) × ((get_or (zip xs passes) k d).1.own ≡ [])
-new_at number [] passes k d new lt = absurd (omega (arith, lt))
-new_at number (x ∷ xs) [] k d new lt = absurd (omega (arith, lt))
-new_at number (x ∷ xs) (pass ∷ passes) zero d new lt = (omega (arith, new.0), new.1)
-new_at number (x ∷ xs) (pass ∷ passes) (suc k) d new lt = let rest = new_at (number + 1) xs passes k d new.2 (omega (arith, lt)) in (omega (arith, rest.0), rest.1)
+pub new_at : {X Y : Type 0} (know : Y → Known) (number : ℕ) (xs : List X) (passes : List Y) (k : ℕ) (d : X × Y) → AreNew number (map know passes) → k < length (zip xs passes)
+    → ((know (get_or (zip xs passes) k d).1).number ≡ number + k) × ((know (get_or (zip xs passes) k d).1).own ≡ [])
+new_at know number [] passes k d new lt = absurd (omega (arith, lt))
+new_at know number (x ∷ xs) [] k d new lt = absurd (omega (arith, lt))
+new_at know number (x ∷ xs) (pass ∷ passes) zero d new lt = (omega (arith, new.0), new.1)
+new_at know number (x ∷ xs) (pass ∷ passes) (suc k) d new lt = let rest = new_at know (number + 1) xs passes k d new.2 (omega (arith, lt)) in (omega (arith, rest.0), rest.1)
 
 -- the post at a place
 pub first_at : {X Y : Type 0} (xs : List X) (ys : List Y) (k : ℕ) (d : X × Y) → k < length (zip xs ys) → slice_get xs k ≡ Some (get_or (zip xs ys) k d).0

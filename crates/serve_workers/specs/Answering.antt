@@ -6,8 +6,8 @@ use Rattle.desk_access.specs.Division.{DividedRun, each_of, first_conn}
 use Rattle.conn_serve.specs.declared.rules.Rules.{Rules}
 use Rattle.conn_serve.specs.Serves.{CarriedBy}
 use Rattle.conn_serve.specs.Says.{HasCarried}
-use Rattle.spool_turns.specs.Passes.{Known}
-use Rattle.spool_turns.specs.Ran.{Ran}
+use Rattle.desk_seats.specs.Passes.{Known}
+use Rattle.desk_seats.specs.Ran.{Ran}
 
 -- A text may be written to the link that the door of that caller gives after `k` others, of which these bytes were read, once a pass of the
 -- desk made the calls that go with it: those of the connection whose number is `k` above the caller's first one in the run, by these

@@ -6,7 +6,7 @@ use Rattle.edge_io.specs.Door.{DoorState}
 use Rattle.desk_access.specs.Desk.{DeskState}
 use Rattle.desk_access.specs.Division.{DividedRun, callers_of}
 use Rattle.conn_serve.specs.declared.rules.Rules.{Rules}
-use Rattle.spool_turns.specs.Passes.{Known}
+use Rattle.desk_seats.specs.Passes.{Known}
 use Rattle.serve_workers.specs.declared.worker.WorkerReport.{WorkerReport}
 use Rattle.serve_workers.specs.Works.{Posted, Dismissed, Worked}
 

@@ -2,3 +2,4 @@ pub mod Served
 pub mod Works
 pub mod Crews
 pub mod Answering
+pub mod Shortage

@@ -5,11 +5,9 @@ ghost use Rattle.serve_workers.specs.Crews.{IsRoom};
 
 use crate::worker::{Worker, WorkerReport};
 use conn_serve::Rules;
-use edge_disk::Disk;
+use desk_seats::Seat;
 use edge_io::Door;
-use spool_turns::{Naming, Pass, Seated};
 use std::alloc::{AllocError, Global};
-use std::sync::Wait;
 
 /// Where one worker serves, and how.
 #[derive(Drop)]
@@ -22,36 +20,36 @@ pub struct Post<P: Door> {
 
 /// What workers leave. Each list has one item for each worker, in their order.
 #[derive(Drop)]
-pub struct Crew<P: Door, J: Naming> {
+pub struct Crew<P: Door, S: Seat> {
     /// The doors, to which the links that were finished are given back.
     pub doors: Vec<P>,
     /// The passes, which have seen all calls that their workers made.
-    pub passes: Vec<Pass<J>>,
+    pub passes: Vec<S::Pass>,
     /// Why each worker ended, and how many links it finished.
     pub reports: Vec<WorkerReport>,
 }
 
 /// The error of [`crate::hire`]: no memory was found for the workers. None of them has begun, and all is given back.
 #[derive(Drop)]
-pub struct NoCrew<P: Door, J: Naming> {
+pub struct NoCrew<P: Door, S: Seat> {
     /// The doors and their rules, as they were given.
     pub posts: Vec<Post<P>>,
     /// The passes, as they were given.
-    pub passes: Vec<Pass<J>>,
+    pub passes: Vec<S::Pass>,
 }
 
 /// Empty lists with room for a number of workers and for what they leave, and for one pass more.
 #[derive(Drop)]
-pub(crate) struct Room<'a, P: Door, D: Disk, J: Naming, R: Wait> {
-    pub(crate) workers: Vec<Worker<'a, P, D, J, R>>,
-    pub(crate) crew: Crew<P, J>,
+pub(crate) struct Room<P: Door, S: Seat> {
+    pub(crate) workers: Vec<Worker<P, S>>,
+    pub(crate) crew: Crew<P, S>,
 }
 
 /// Reserves room for `many` workers, at most 4,096, and for what they leave, with one pass more. The error is want of memory.
-pub(crate) fn room_for<'a, P: Door + Drop, D: Disk, J: Naming, R: Wait>(
+pub(crate) fn room_for<P: Door + Drop, S: Seat>(
     alloc: Global,
     many: usize,
-) -> Result<Room<'a, P, D, J, R>, AllocError>
+) -> Result<Room<P, S>, AllocError>
     requires { many ≤ 4096 }
 
     ensures workers { IfOk result (λ room. IsRoom many room.workers) }
@@ -68,17 +66,17 @@ pub(crate) fn room_for<'a, P: Door + Drop, D: Disk, J: Naming, R: Wait>(
 }
 
 /// Moves what the workers leave into the lists of `crew`, which are empty and have room for it and for one pass more.
-pub(crate) fn dismissed<P: Door + Drop, D: Disk, J: Naming, R: Wait>(
-    workers: Vec<Worker<'_, P, D, J, R>>,
-    crew: Crew<P, J>,
-) -> Crew<P, J>
+pub(crate) fn dismissed<P: Door + Drop, S: Seat>(
+    workers: Vec<Worker<P, S>>,
+    crew: Crew<P, S>,
+) -> Crew<P, S>
     requires doors { IsRoom (vec_len workers) crew.doors }
     requires passes { IsRoom (vec_len workers + 1) crew.passes }
     requires reports { IsRoom (vec_len workers) crew.reports }
 
-    ensures doors { result.doors.items ≡ map (λ (worker : _). worker.door) workers.entry.items }
-    ensures passes { result.passes.items ≡ map (λ (worker : _). worker.seated.pass) workers.entry.items }
-    ensures reports { result.reports.items ≡ map (λ (worker : _). worker.report) workers.entry.items }
+    ensures doors { result.doors.items ≡ map (λ (worker : _). worker.door) workers.items }
+    ensures passes { map S.pass_knows result.passes.items ≡ map (λ (worker : _). S.knows worker.seat) workers.items }
+    ensures reports { result.reports.items ≡ map (λ (worker : _). worker.report) workers.items }
     ensures room { vec_len result.passes < vec_capacity result.passes }
 {
     let Crew {
@@ -89,13 +87,12 @@ pub(crate) fn dismissed<P: Door + Drop, D: Disk, J: Naming, R: Wait>(
     for worker in workers {
         let Worker {
             door,
-            seated,
+            seat,
             report,
             ..
         } = worker;
-        let Seated { pass, .. } = seated;
         doors.push_reserved(door);
-        passes.push_reserved(pass);
+        passes.push_reserved(seat.into_pass());
         reports.push_reserved(report);
     }
     Crew {

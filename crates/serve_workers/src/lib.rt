@@ -14,6 +14,7 @@
 
 mod crew;
 mod hired;
+mod shortage;
 mod worker;
 
 pub use crew::{Crew, NoCrew, Post};

@@ -2,20 +2,18 @@
 ghost use Rattle.std.specs.Prelude.{◌≡◌, ◌+◌, ◌<◌, ◌≤◌, ℕ, List, [], Some, OnOk, IfErr};
 ghost use Rattle.conn_serve.specs.Serves.{CarriedBy};
 ghost use Rattle.conn_serve.specs.Says.{HasCarried, MaySay};
-ghost use Rattle.spool_turns.specs.Replays.{IsReal};
 ghost use Rattle.desk_access.specs.Division.{each_of, first_conn};
 ghost use Rattle.serve_workers.specs.Works.{ServesLink, Stops, Worked, posted_as, dismissed_as};
 ghost use Rattle.serve_workers.specs.Crews.{IsReady};
 ghost use Rattle.serve_workers.specs.Answering.{MayAnswer};
 
+use crate::shortage::shortage_of;
 use conn_serve::{Rules, attend};
 use desk_access::Access;
-use edge_disk::Disk;
+use desk_seats::Seat;
 use edge_io::Door;
 use notes::Note;
-use spool_turns::{Naming, Seated};
 use std::alloc::Global;
-use std::sync::Wait;
 
 /// Why a worker ended.
 #[derive(Clone, Copy, PartialEq, Eq)]
@@ -40,12 +38,12 @@ pub struct WorkerReport {
     pub finished: u32,
 }
 
-/// A worker: its door, its pass at the shared desk, the rules by which it serves, and its number, which is that of its pass. Before it
+/// A worker: its door, its seat at the shared desk, the rules by which it serves, and its number, which is that of its pass. Before it
 /// has worked, its report means nothing.
 #[derive(Drop)]
-pub(crate) struct Worker<'a, P: Door, D: Disk, J: Naming, R: Wait> {
+pub(crate) struct Worker<P: Door, S: Seat> {
     pub(crate) door: P,
-    pub(crate) seated: Seated<'a, D, J, R>,
+    pub(crate) seat: S,
     pub(crate) rules: Rules,
     pub(crate) number: u32,
     pub(crate) report: WorkerReport,
@@ -75,7 +73,8 @@ fn serve_next<P: Door, A: Access>(
     };
     let attended = attend(alloc, &mut link, rules, access, conn);
     let status = Note::of_talk(attended.talk).status();
-    match door.give_back(link, rules.proto, conn, status) {
+    let shortage = shortage_of(attended.talk);
+    match door.give_back(link, rules.proto, conn, status, shortage) {
         Ok(()) => Ok(()),
         Err(_) => Err(WorkerEnd::NoMemory),
     }
@@ -83,24 +82,24 @@ fn serve_next<P: Door, A: Access>(
 
 // Serves links of the door one after another, at most `talks` of them, as connections numbered from `first` on. It ends at the first
 // link that is not accepted or not given back.
-fn serve_all<P: Door, D: Disk, J: Naming, R: Wait>(
+fn serve_all<P: Door, S: Seat>(
     alloc: Global,
     door: &mut P,
     rules: &Rules,
-    seated: &mut Seated<'_, D, J, R>,
+    seat: &mut S,
     first: u64,
     talks: u32,
 ) -> WorkerReport
-    requires first { first ≡ first_conn J.run seated.old.pass.number }
-    requires ready { IsReady J.run seated.old.pass.number seated.old.pass }
-    requires talks { talks ≤ each_of J.run.division }
-    requires says { MayAnswer (IsReal D.Disk J.start J.run J.seats J.began) J.start J.run seated.old.pass.number
+    requires first { first ≡ first_conn S.of_run (S.knows seat.old).number }
+    requires ready { IsReady S.of_run (S.knows seat.old).number (S.knows seat.old) }
+    requires talks { talks ≤ each_of S.of_run.division }
+    requires says { MayAnswer S.is_real S.start S.of_run (S.knows seat.old).number
         (P.permits door.old) rules.now }
 
-    ensures worked { Worked J.start J.run talks (posted_as rules.now (P.told door.old) seated.old.pass) (dismissed_as (P.told door.new) seated.new.pass result) }
+    ensures worked { Worked S.start S.of_run talks (posted_as rules.now (P.told door.old) (S.knows seat.old)) (dismissed_as (P.told door.new) (S.knows seat.new) result) }
 {
     for talk in 0..talks {
-        if let Err(end) = serve_next(alloc, door, rules, seated, first + u64::from(talk)) {
+        if let Err(end) = serve_next(alloc, door, rules, seat, first + u64::from(talk)) {
             return WorkerReport {
                 end,
                 finished: talk,
@@ -113,26 +112,25 @@ fn serve_all<P: Door, D: Disk, J: Naming, R: Wait>(
     }
 }
 
-impl<'a, P: Door, D: Disk, J: Naming, R: Wait> Worker<'a, P, D, J, R> {
+impl<P: Door, S: Seat> Worker<P, S> {
     /// Serves the links of its door, one after another, and notes in its report why it ended: the door is shut for good, `talks` links
     /// were served, an accept failed, or no memory was found to give a link back.
     pub(crate) fn work(&mut self, alloc: Global, talks: u32)
-        requires ready { IsReady J.run self.old.number self.old.seated.pass }
-        requires talks { talks ≤ each_of J.run.division }
-        requires says { MayAnswer (IsReal D.Disk J.start J.run J.seats J.began) J.start J.run self.old.number
+        requires ready { IsReady S.of_run self.old.number (S.knows self.old.seat) }
+        requires talks { talks ≤ each_of S.of_run.division }
+        requires says { MayAnswer S.is_real S.start S.of_run self.old.number
             (P.permits self.old.door) self.old.rules }
 
-        ensures worked { Worked J.start J.run talks (posted_as self.old.rules (P.told self.old.door) self.old.seated.pass)
-            (dismissed_as (P.told self.new.door) self.new.seated.pass self.new.report) }
+        ensures worked { Worked S.start S.of_run talks (posted_as self.old.rules (P.told self.old.door) (S.knows self.old.seat))
+            (dismissed_as (P.told self.new.door) (S.knows self.new.seat) self.new.report) }
         ensures number { self.new.number ≡ self.old.number }
     {
-        let shared = self.seated.shared;
-        let first = shared.division().first_conn(shared.run(), self.number);
+        let first = self.seat.first_conn(self.number);
         self.report = serve_all(
             alloc,
             &mut self.door,
             &self.rules,
-            &mut self.seated,
+            &mut self.seat,
             first,
             talks,
         );

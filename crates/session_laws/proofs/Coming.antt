@@ -9,7 +9,7 @@ use Rattle.desk_access.specs.Desk.{Allowed, DeskState, Goes}
 use Rattle.desk_access.specs.History.{IsDesk}
 use Rattle.desk_access.proofs.OneState.{one_state}
 use Rattle.desk_access.proofs.Steps.{allowed_later, one_later}
-use Rattle.spool_turns.specs.Passes.{LeadsAbove, upto_first}
+use Rattle.desk_seats.specs.Passes.{LeadsAbove, upto_first}
 use Rattle.session_laws.specs.Led.{Led}
 use Rattle.session_laws.proofs.Leading.{back_as}
 

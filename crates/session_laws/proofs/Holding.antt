@@ -18,8 +18,8 @@ use Rattle.desk_access.proofs.Steps.{goes_later}
 use Rattle.forward_core.specs.Forwarded.{until_by}
 use Rattle.forward_core.specs.declared.outward.Outward.{Outward}
 use Rattle.forward_core.proofs.Rest.{as_given, left_rise, one_entry}
-use Rattle.spool_turns.specs.Passes.{Known, LeadsAbove, upto_first}
-use Rattle.spool_turns.specs.Ran.{Ran, upto_first-none}
+use Rattle.desk_seats.specs.Passes.{Known, LeadsAbove, upto_first}
+use Rattle.desk_seats.specs.Ran.{Ran, upto_first-none}
 use Rattle.serve_forwarder.specs.Looks.{Every, First, Offer, first_of, upto_of}
 use Rattle.serve_forwarder.specs.Sessions.{IsHeld, Session}
 use Rattle.session_laws.specs.Beside.{IsAmong, IsMarking, MarksAlone}

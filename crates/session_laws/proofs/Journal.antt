@@ -20,8 +20,8 @@ use Rattle.desk_access.proofs.Steps.{goes_later, one_later}
 use Rattle.forward_core.specs.Protocols.{settings_as}
 use Rattle.forward_core.specs.Settings.{Settings}
 use Rattle.forward_core.specs.declared.outward.Outward.{Outward}
-use Rattle.spool_turns.specs.Passes.{Known, known}
-use Rattle.spool_turns.specs.Ran.{Ran}
+use Rattle.desk_seats.specs.Passes.{Known, known}
+use Rattle.desk_seats.specs.Ran.{Ran}
 use Rattle.serve_forwarder.specs.declared.destination.Destination.{Destination}
 use Rattle.serve_forwarder.specs.Looks.{AreLooks, Forwarder, Found, Held, Idle, Undialed, Unread, IsFound, IsLook, IsPending, Look, calls_at, calls_found, calls_of, forwarder_at, held_in, sessions_of, Offer, first_of, upto_of}
 use Rattle.serve_forwarder.specs.Sessions.{IsHeld, Session}

@@ -5,12 +5,13 @@ use Rattle.spool_desk.specs.Alone.{AloneView}
 use Rattle.desk_access.specs.Call.{Record, own_of}
 use Rattle.desk_access.specs.Desk.{DeskState}
 use Rattle.desk_access.proofs.Nexts.{all_right}
-use Rattle.spool_turns.specs.Passes.{Known, Stands}
+use Rattle.desk_seats.specs.Passes.{Known, Stands}
 use Rattle.serve_forwarder.specs.declared.destination.Destination.{Destination}
 use Rattle.serve_forwarder.specs.declared.looking.Outcome.{Outcome}
 use Rattle.serve_forwarder.specs.Looks.{Forwarder, forwarder_at}
 use Rattle.serve_workers.proofs.Placing.{new_last}
-use Rattle.serve_run.specs.Running.{HasForwarded, Seating}
+use Rattle.serve_run.specs.Running.{HasForwarded}
+use Rattle.serve_desk.specs.Serving.{Seating}
 use Rattle.session_laws.specs.Beside.{MarksAlone}
 use Rattle.session_laws.specs.Run.{SessionsOfRun}
 use Rattle.session_laws.specs.Sessions.{HasLooked}

@@ -18,7 +18,7 @@ use Rattle.forward_core.specs.Session.{EndsBy, MarksBy}
 use Rattle.forward_core.specs.Settings.{Settings}
 use Rattle.forward_core.specs.Turning.{IsTold}
 use Rattle.forward_core.specs.declared.sent.Sent.TheVariants.{Drained}
-use Rattle.spool_turns.specs.Passes.{LeadsAbove, upto_first}
+use Rattle.desk_seats.specs.Passes.{LeadsAbove, upto_first}
 use Rattle.serve_forwarder.specs.Sessions.{Session}
 
 -- the call makes numbers known

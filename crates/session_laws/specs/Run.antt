@@ -7,7 +7,8 @@ use Rattle.desk_access.specs.Call.{own_of}
 use Rattle.desk_access.specs.Desk.{DeskState, Goes}
 use Rattle.serve_forwarder.specs.Looks.{calls_of}
 use Rattle.serve_forwarder.specs.declared.destination.Destination.{Destination}
-use Rattle.serve_run.specs.Running.{Given, HasServed, Left, Seating}
+use Rattle.serve_run.specs.Running.{Given, Left}
+use Rattle.serve_desk.specs.Serving.{HasServed, Seating}
 use Rattle.session_laws.specs.Beside.{MarksAlone}
 use Rattle.session_laws.specs.Sessions.{SentBeside}
 

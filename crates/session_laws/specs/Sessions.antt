@@ -15,7 +15,7 @@ use Rattle.forward_core.specs.Protocols.{settings_as}
 use Rattle.forward_core.specs.Settings.{Settings}
 use Rattle.forward_core.specs.Turning.{IsTold}
 use Rattle.forward_core.specs.declared.outward.Outward.{Outward}
-use Rattle.spool_turns.specs.Passes.{Known}
+use Rattle.desk_seats.specs.Passes.{Known}
 use Rattle.serve_forwarder.specs.declared.destination.Destination.{Destination}
 use Rattle.serve_forwarder.specs.Looks.{AreLooks, Forwarder, IsLook, Look, calls_of, forwarder_at, sessions_of}
 use Rattle.serve_forwarder.specs.Sessions.{Session}

@@ -1,6 +1,6 @@
 //! What holds of sessions beside other callers. These functions do nothing: each has a law as its contract.
 ghost use Rattle.spool_turns.specs.Replays.{desk_at};
-ghost use Rattle.serve_run.specs.Running.{seating_as};
+ghost use Rattle.serve_desk.specs.Serving.{seating_as};
 ghost use Rattle.session_laws.specs.Laws.{SendsAmongOthers, ToldIsKnown};
 ghost use Rattle.session_laws.specs.Run.{SessionsOfRun};
 ghost use Rattle.session_laws.specs.Sessions.{OnlyTheirMarksAreKnown, OnlyToldIsKnown, SessionsFollow};

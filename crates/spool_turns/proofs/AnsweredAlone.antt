@@ -14,7 +14,8 @@ use Rattle.desk_access.specs.Call.{takes}
 use Rattle.desk_access.specs.Desk.{DeskState}
 use Rattle.desk_access.specs.Legal.{May, IsNext, IsUnused}
 use Rattle.spool_turns.specs.Rules.{View, handed_by}
-use Rattle.spool_turns.specs.Passes.{Beginning, known, known_of, Sound, Calls, IsPass, pass_in}
+use Rattle.desk_seats.specs.Passes.{known, Calls}
+use Rattle.spool_turns.specs.Passes.{Beginning, known_of, Sound, IsPass, pass_in}
 use Rattle.spool_turns.specs.Replays.{IsReal}
 use Rattle.spool_turns.specs.Letters.{IsLetter, IsAnswered}
 use Rattle.spool_turns.proofs.Fronts.{front_may}

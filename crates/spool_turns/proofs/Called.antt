@@ -10,8 +10,9 @@ use Rattle.spool_desk.specs.Runs.{runs_then}
 use Rattle.desk_access.specs.Legal.{May, Met}
 use Rattle.desk_access.proofs.Nexts.{met_then}
 use Rattle.spool_turns.specs.Rules.{View, Facts, PassView, made_by, Knows, after_call, with_record, end_at, cursor_at}
-use Rattle.spool_turns.specs.Own.{own_of-snoc, own_of-rest}
-use Rattle.spool_turns.specs.Passes.{Beginning, Known, known, known_of, LeadsAbove, MayFollow, Sound, Calls, IsTurn, IsPass, locked_of, calling_of, pass_of, facts_in, caller_in, pass_in, fresh}
+use Rattle.desk_seats.specs.Own.{own_of-snoc, own_of-rest}
+use Rattle.desk_seats.specs.Passes.{Known, known, LeadsAbove, MayFollow, Calls, fresh}
+use Rattle.spool_turns.specs.Passes.{Beginning, known_of, Sound, IsTurn, IsPass, locked_of, calling_of, pass_of, facts_in, caller_in, pass_in}
 use Rattle.spool_turns.specs.Replays.{Replays, IsExact}
 use Rattle.spool_turns.proofs.Led.{replays_more}
 

@@ -18,8 +18,9 @@ use Rattle.desk_access.proofs.Steps.{all_later}
 use Rattle.desk_access.proofs.Lasting.{goes_grows, goes_kept, which_one, stood_was}
 use Rattle.desk_access.proofs.LegalEntries.{legal_journal}
 use Rattle.desk_access.proofs.Told.{told_was_taken}
-use Rattle.spool_turns.specs.Own.{own_of-snoc, own_of-snoc-other}
-use Rattle.spool_turns.specs.Passes.{Beginning, Known, Calls, IsAsked}
+use Rattle.desk_seats.specs.Own.{own_of-snoc, own_of-snoc-other}
+use Rattle.desk_seats.specs.Passes.{Known, Calls}
+use Rattle.spool_turns.specs.Passes.{Beginning, IsAsked}
 use Rattle.spool_turns.specs.OwnEntries.{groups_by, AddsOwn}
 use Rattle.spool_turns.specs.Issuing.{ids_of, AreFrom}
 use Rattle.spool_turns.specs.Whole.{Keeps}

@@ -20,8 +20,9 @@ use Rattle.desk_access.proofs.Nexts.{met_then}
 use Rattle.spool_desk.specs.declared.alone.Alone.{Alone}
 use Rattle.spool_desk.specs.Alone.{AloneView, alone_at, LeadsFrom, RunsTo}
 use Rattle.spool_turns.specs.Rules.{View, Facts, PassView, Handed, made_by, Knows, after_call, caught_up, handed_by}
-use Rattle.spool_turns.specs.Own.{own_of-snoc, own_of-rest}
-use Rattle.spool_turns.specs.Passes.{Beginning, Known, known, known_of, LeadsAbove, AllJoin, Sound, Calls, IsTurn, pass_of, pass_in, facts_in}
+use Rattle.desk_seats.specs.Own.{own_of-snoc, own_of-rest}
+use Rattle.desk_seats.specs.Passes.{Known, known, LeadsAbove, AllJoin, Calls}
+use Rattle.spool_turns.specs.Passes.{Beginning, known_of, Sound, IsTurn, pass_of, pass_in, facts_in}
 use Rattle.spool_turns.specs.Replays.{LeadsBy, Replays, IsExact}
 use Rattle.spool_turns.specs.Letters.{IsAnswered, claimed}
 use Rattle.spool_turns.specs.Joining.{entries_out, IsJoined, IsEntered}

@@ -13,7 +13,8 @@ use Rattle.desk_access.specs.Desk.{DeskState}
 use Rattle.desk_access.specs.JointRecords.{Part, joined}
 use Rattle.desk_access.specs.Legal.{Met}
 use Rattle.spool_turns.specs.Rules.{View, Facts, facts, PassView, made_by, after_call, with_record}
-use Rattle.spool_turns.specs.Passes.{LeadsAbove, locked_of, facts_in}
+use Rattle.desk_seats.specs.Passes.{LeadsAbove}
+use Rattle.spool_turns.specs.Passes.{locked_of, facts_in}
 use Rattle.spool_turns.specs.Joining.{entries_out, part_of, parts_of, joint_record, part_answer, records_behind, LeadOn, AreBehind}
 use Rattle.spool_turns.proofs.JointRecords.{parts_both, behind_then}
 

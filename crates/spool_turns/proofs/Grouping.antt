@@ -14,7 +14,8 @@ use Rattle.desk_access.specs.JointRecords.{Part, joined, ArePartsOf, joint_of}
 use Rattle.spool_desk.specs.Standing.{standing_in}
 use Rattle.spool_desk.specs.Alone.{AloneView, RunsTo}
 use Rattle.spool_turns.specs.Rules.{View, Facts, facts, PassView}
-use Rattle.spool_turns.specs.Passes.{Beginning, AllJoin, IsTurn, hosting_of, hosted_in, locked_of, facts_in}
+use Rattle.desk_seats.specs.Passes.{AllJoin}
+use Rattle.spool_turns.specs.Passes.{Beginning, IsTurn, hosting_of, hosted_in, locked_of, facts_in}
 use Rattle.spool_turns.specs.Replays.{Replays}
 use Rattle.spool_turns.specs.Joining.{parts_of, numbers_of, AreRising, AreBehind, AreJoint, records_behind, LeadOn}
 use Rattle.spool_turns.proofs.Called.{published}

@@ -17,7 +17,7 @@ use Rattle.desk_access.specs.History.{IsDesk}
 use Rattle.desk_access.specs.Journal.{goes_then}
 use Rattle.desk_access.specs.JointRecords.{Part, joined, ArePartsOf, standing_with, bytes_of, stored_from, failed_from, joint_of}
 use Rattle.desk_access.proofs.Steps.{goes_later}
-use Rattle.spool_turns.specs.Passes.{AllJoin}
+use Rattle.desk_seats.specs.Passes.{AllJoin}
 use Rattle.spool_turns.specs.Rules.{PassView}
 use Rattle.spool_turns.specs.Joining.{part_of, parts_of, numbers_of, AreRising, joins_behind, standing_behind, part_answer, records_behind, LeadOn, AreBehind}
 

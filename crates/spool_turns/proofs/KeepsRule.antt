@@ -8,7 +8,7 @@ use Rattle.atomic_table.specs.Table.{State as Table, Me, keeps, Allows, Splits, 
 use Rattle.event_form.specs.declared.event.Entry.{Entry}
 use Rattle.desk_access.specs.Call.{Call, Record, own_of}
 use Rattle.spool_turns.specs.Rules.{View, Locked, Pass, Copy, Claim, Returned, Spent, Handed, handed_by, sent_out, claim_of, out_of, returning, back_again, SettlesClaim, Facts, PassView, pass_view, made_by, Knows, Saw, Whole, HasCaller, Fits, Fresh, words_of, Kept, first_facts, first_view, one_pass_more, new_pass, admitted, released, caller_of, with_record, after_call, CallerKnown, end_at, cursor_at, copy_of, merged, merging, longer, compared_pass, caught_up, SeesAll, Records, Learns, MakesPass, WritesEnd, WritesCursor, LoadsEnd, LoadsCursor, Compares}
-use Rattle.spool_turns.specs.Own.{prefix_self, prefix_more, own_of-snoc, own_of-snoc-other, own_of-between}
+use Rattle.desk_seats.specs.Own.{prefix_self, prefix_more, own_of-snoc, own_of-snoc-other, own_of-between}
 use Rattle.spool_turns.proofs.Views.{prefix_shorter, at_set', at_snoc'}
 
 -- the rule of the table

@@ -19,7 +19,8 @@ use Rattle.spool_desk.proofs.Leading.{end_is}
 use Rattle.spool_desk.proofs.Making.{idle_makes}
 use Rattle.spool_turns.specs.declared.view.Twin.{Twin}
 use Rattle.spool_turns.specs.Rules.{View, facts, PassView, made_by, Knows, after_call, with_record}
-use Rattle.spool_turns.specs.Passes.{Beginning, Known, known_of, Sound, Calls, IsTurn, IsPass, locked_of, pass_of, facts_in, pass_in}
+use Rattle.desk_seats.specs.Passes.{Known, Calls}
+use Rattle.spool_turns.specs.Passes.{Beginning, known_of, Sound, IsTurn, IsPass, locked_of, pass_of, facts_in, pass_in}
 use Rattle.spool_turns.specs.Replays.{BeganAt, Begins, Replays, IsReal, IsExact}
 use Rattle.spool_turns.specs.Twins.{of_journal}
 use Rattle.spool_turns.specs.Stands.{with_ids, IsTold, IsKept, IsMade, idle_record}

@@ -12,7 +12,8 @@ use Rattle.desk_access.specs.Call.{takes, Record}
 use Rattle.desk_access.specs.Desk.{DeskState}
 use Rattle.desk_access.specs.JointRecords.{Part, standing_with}
 use Rattle.spool_turns.specs.Rules.{View, Handed, PassView, made_by}
-use Rattle.spool_turns.specs.Passes.{known_of, LeadsAbove, AllJoin, IsPass, pass_in, Calls}
+use Rattle.desk_seats.specs.Passes.{LeadsAbove, AllJoin, Calls}
+use Rattle.spool_turns.specs.Passes.{known_of, IsPass, pass_in}
 use Rattle.spool_turns.specs.Letters.{IsLetter, claimed}
 
 -- the entries that a pass is out with, and its part of a group

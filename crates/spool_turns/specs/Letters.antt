@@ -13,7 +13,8 @@ use Rattle.desk_access.specs.Batch.{MayTake, MayUse, IsPlain}
 use Rattle.desk_access.specs.Desk.{DeskState}
 use Rattle.desk_access.specs.Legal.{IsNext, IsUnused}
 use Rattle.spool_turns.specs.Rules.{View, Handed, handed_by}
-use Rattle.spool_turns.specs.Passes.{Beginning, Known, known, known_of, IsPass, pass_in, Sound, Calls}
+use Rattle.desk_seats.specs.Passes.{Known, known, Calls}
+use Rattle.spool_turns.specs.Passes.{Beginning, known_of, IsPass, pass_in, Sound}
 use Rattle.spool_turns.specs.Replays.{IsReal}
 
 -- The seat is that of the pass of this number, one of so many. It is out with these entries, and may take them, or any front of them where

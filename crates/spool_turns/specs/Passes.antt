@@ -1,16 +1,14 @@
--- What a caller of the shared desk knows.
-use Rattle.std.specs.Prelude.{◌≡◌, ℕ, zero, suc, ◌-◌, ◌≤◌, ◌==◌, if◌then◌else◌, Bool, true, false, List, [], ◌∷◌, ◌++◌, map, Option, None, Some}
-use mathlib.Core.List.{IsPrefix}
+-- What the seats of a shared desk hold, and what is true of them.
+use Rattle.std.specs.Prelude.{◌≡◌, ℕ, Bool, false, List, [], ◌∷◌, ◌++◌, map, Option, None, Some}
 use Rattle.atomic_table.specs.Table.{Me}
 use Rattle.atomic_table.specs.Seated.{TableId}
 use Rattle.edge_disk.specs.Disk.{Moment}
-use Rattle.spool_state.specs.SpoolState.{end}
 use Rattle.hec_ids.specs.Table.{holds_settled}
 use Rattle.desk_access.specs.declared.division.Division.TheVariants.{Workers}
 use Rattle.desk_access.specs.Division.{DividedRun, divided}
-use Rattle.desk_access.specs.Call.{Call, takes, Record, own_of}
+use Rattle.desk_access.specs.Call.{Record, own_of}
 use Rattle.desk_access.specs.Desk.{DeskState, Goes}
-use Rattle.desk_access.specs.Legal.{Met}
+use Rattle.desk_seats.specs.Passes.{Known, known, LeadsBelow}
 use Rattle.spool_desk.specs.Alone.{AloneView}
 use Rattle.spool_turns.specs.Rules.{View, Locked, Pass, Claim, Handed, Facts, facts, PassView, pass_view}
 
@@ -111,76 +109,15 @@ IsClaim me = me ≡ claim_at (number_in me.0) (handed_in me.0)
 abbrev pub IsCalling : Me ℕ View → Type 0
 IsCalling me = me ≡ calling_of (facts_in me.0) (caller_in me.0)
 
--- A pass as its caller sees it: its number, the journal that it has seen, its own calls, and the greatest end and cursor
--- that it loaded.
-pub record Known : Type 0 where
-  pub number : ℕ
-  pub seen : List Record
-  pub own : List Call
-  pub end_known : ℕ
-  pub cursor_known : ℕ
-
-abbrev pub known : ℕ → List Record → List Call → ℕ → ℕ → Known
-known number seen own end_known cursor_known = record { number = number; seen = seen; own = own; end_known = end_known; cursor_known = cursor_known }
-
+-- what the caller of a pass knows by it
 abbrev pub known_of : PassView → Known
 known_of m = known m.number m.seen m.own m.end_known m.cursor_known
-
--- the journal leads from that state to one whose end and cursor are at most these
-abbrev pub LeadsBelow : DeskState → List Record → ℕ → ℕ → Type 0
-LeadsBelow x log most_end most_cursor = (y : DeskState) × Goes x log y × (end y.spool ≤ most_end) × (y.spool.cursor ≤ most_cursor)
-
--- the journal leads from that state to one whose end and cursor are at least these
-abbrev pub LeadsAbove : DeskState → List Record → ℕ → ℕ → Type 0
-LeadsAbove x log least_end least_cursor = (y : DeskState) × Goes x log y × (least_end ≤ end y.spool) × (least_cursor ≤ y.spool.cursor)
-
--- the records up to the first of that caller
-abbrev pub upto_first : ℕ → List Record → List Record
-upto_first number [] = []
-upto_first number (one ∷ records) = if one.by == number then one ∷ [] else one ∷ upto_first number records
 
 -- what is true of each pass of a desk that was given in such a state
 pub record Sound (start : DeskState → Type 0) (m : PassView) : Type 0 where
   pub also : m.also ≡ []
   pub own : own_of m.number m.seen ≡ m.own
   pub lawful : (x : DeskState) → start x → LeadsBelow x m.seen m.end_known m.cursor_known
-
-abbrev pub IsTake : Call → Type 0
-IsTake (takes group result) = Unit {0}
-IsTake _ = ⊥
-
--- each of the records is a take that was stored as one group with the take of the record before it
-abbrev pub AllJoin : List Record → Type 0
-AllJoin [] = Unit {0}
-AllJoin (one ∷ records) = (one.joins ≡ true) × IsTake one.call × AllJoin records
-
--- What the caller has seen behind the record of its call: behind a take the takes that were stored as one group with it, and
--- behind any other call nothing.
-abbrev pub MayFollow : Call → List Record → Type 0
-MayFollow (takes group result) behind = AllJoin behind
-MayFollow _ behind = behind ≡ []
-
--- The journal after a call begins with all that the caller had seen, and its last record is the call's own, but for takes of
--- others that were stored as one group with it. It is lawful, each of its calls is one that its caller might make, the caller's own
--- calls are all that it has of its number, and the end and the cursor after it are no less than what the caller had loaded.
-pub record Calls (start : DeskState → Type 0) (run : DividedRun) (seats : ℕ) (v : Known) (call : Call) (w : Known) : Type 0 where
-  pub between : List Record
-  pub others : own_of v.number between ≡ []
-  pub one : Record
-  pub by : one.by ≡ v.number
-  pub of_call : one.call ≡ call
-  pub behind : List Record
-  pub follow : MayFollow call behind
-  pub others_behind : own_of v.number behind ≡ []
-  pub seen : w.seen ≡ ((v.seen ++ between) ++ one ∷ []) ++ behind
-  pub own : w.own ≡ v.own ++ call ∷ []
-  pub number : w.number ≡ v.number
-  pub all : own_of w.number w.seen ≡ w.own
-  pub met : Met run (seats - 1) [] w.seen
-  pub end_known : v.end_known ≤ w.end_known
-  pub cursor_known : v.cursor_known ≤ w.cursor_known
-  pub lawful : (x : DeskState) → start x → LeadsAbove x w.seen v.end_known v.cursor_known
-  pub own_lawful : (x : DeskState) → start x → LeadsAbove x ((v.seen ++ between) ++ one ∷ []) v.end_known v.cursor_known
 
 -- Before its last record the journal led to a desk at which the channel held just those of the ids settled that the answer says.
 pub record IsAsked (x : DeskState) (channel : ℕ) (ids : List ℕ) (answer : List Bool) (log : List Record) : Type 0 where
@@ -197,12 +134,3 @@ pub record IsTurn (seats : ℕ) (me : Me ℕ View) (v : AloneView) : Type 0 wher
   pub made : (facts_in me.0).made ≡ seats
   pub end : (facts_in me.0).end ≡ v.end_known
   pub cursor : (facts_in me.0).cursor ≡ v.cursor_known
-
--- so many passes that have seen nothing, from a number on
-abbrev pub fresh : ℕ → ℕ → ℕ → ℕ → List Known
-fresh number zero end_known cursor_known = []
-fresh number (suc count) end_known cursor_known = known number [] [] end_known cursor_known ∷ fresh (suc number) count end_known cursor_known
-
--- the journal begins with what the pass has seen, and the pass's own calls are all that it has of its number
-abbrev pub Stands : List Record → Known → Type 0
-Stands log m = IsPrefix m.seen log × (own_of m.number log ≡ m.own)

@@ -14,7 +14,8 @@ use Rattle.desk_access.specs.History.{IsDesk, Was}
 use Rattle.spool_desk.specs.declared.alone.Alone.{Alone}
 use Rattle.spool_desk.specs.Alone.{AloneView, alone_view, alone_at, IsAt}
 use Rattle.desk_access.specs.Legal.{May, Met, AddsGroups, IsOfRun, IsLegal}
-use Rattle.spool_turns.specs.Passes.{Beginning, Known, Stands}
+use Rattle.desk_seats.specs.Passes.{Known, Stands}
+use Rattle.spool_turns.specs.Passes.{Beginning}
 use Rattle.spool_turns.specs.OwnEntries.{groups_by, AddsOwn}
 use Rattle.spool_turns.specs.Issuing.{ids_of, AreFrom}
 use Rattle.spool_turns.specs.Whole.{Keeps}

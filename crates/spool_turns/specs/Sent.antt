@@ -2,7 +2,8 @@
 use Rattle.std.specs.Prelude.{List}
 use Rattle.event_form.specs.declared.event.Entry.{Entry}
 use Rattle.spool_turns.specs.Rules.{View}
-use Rattle.spool_turns.specs.Passes.{Known, number_in, handed_in}
+use Rattle.desk_seats.specs.Passes.{Known}
+use Rattle.spool_turns.specs.Passes.{number_in, handed_in}
 use Rattle.spool_turns.specs.Letters.{claimed}
 
 -- what the pass knew when it handed in, and the entries

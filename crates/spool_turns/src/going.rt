@@ -6,7 +6,8 @@ ghost use Rattle.desk_access.specs.Call.{takes};
 ghost use Rattle.desk_access.specs.Batch.{MayTake, MayUse, IsPlain};
 ghost use Rattle.desk_access.specs.Legal.{IsNext, IsUnused};
 ghost use Rattle.spool_turns.specs.Rules.{handed_by};
-ghost use Rattle.spool_turns.specs.Passes.{IsClaim, IsPass, Sound, Calls, claim_at, number_in, handed_in, pass_in, known_of};
+ghost use Rattle.desk_seats.specs.Passes.{Calls};
+ghost use Rattle.spool_turns.specs.Passes.{IsClaim, IsPass, Sound, claim_at, number_in, handed_in, pass_in, known_of};
 ghost use Rattle.spool_turns.specs.Replays.{IsReal};
 ghost use Rattle.spool_turns.specs.Letters.{claimed};
 

@@ -2,7 +2,7 @@
 ghost use Rattle.std.specs.Prelude.{◌≡◌, ◌^◌, ◌≤◌, max};
 ghost use mathlib.Core.List.{IsPrefix};
 ghost use Rattle.desk_access.specs.Desk.{DeskState};
-ghost use Rattle.spool_turns.specs.Passes.{LeadsBelow};
+ghost use Rattle.desk_seats.specs.Passes.{LeadsBelow};
 
 use crate::naming::Naming;
 use crate::rule::{PassSeat, Steps};
@@ -22,7 +22,8 @@ pub struct Pass<J: Naming> {
 
 impl<J: Naming> Model for Pass<J> {
     ghost use Rattle.std.specs.Prelude.{◌≡◌, ◌<◌, None};
-    ghost use Rattle.spool_turns.specs.Passes.{Known, known_of, pass_in, IsPass, Sound};
+    ghost use Rattle.desk_seats.specs.Passes.{Known};
+    ghost use Rattle.spool_turns.specs.Passes.{known_of, pass_in, IsPass, Sound};
 
     ghost Value = { Known };
 

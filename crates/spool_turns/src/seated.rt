@@ -3,6 +3,7 @@ use crate::naming::Naming;
 use crate::pass::Pass;
 use crate::shared::Shared;
 use desk_access::{Access, Front};
+use desk_seats::Seat;
 use edge_disk::Disk;
 use event_form::Entry;
 use hec_ids::IssueFault;
@@ -26,8 +27,8 @@ impl<'a, D: Disk, J: Naming, R: Wait> Access for Seated<'a, D, J, R> {
     ghost use Rattle.desk_access.specs.History.{IsDesk};
     ghost use Rattle.desk_access.specs.Legal.{IsNext, IsUnused, IsStored};
     ghost use Rattle.spool_turns.specs.Replays.{IsReal};
-    ghost use Rattle.spool_turns.specs.Ran.{Ran, ran_none, ran_more, none_real, more_real, ran_seen, ran_lawful};
-    ghost use Rattle.spool_turns.specs.Ran.{ran_next, ran_issued, ran_unused, ran_stored, ran_still_stored, ran_confirms};
+    ghost use Rattle.desk_seats.specs.Ran.{Ran, ran_none, ran_more, none_real, more_real, ran_seen, ran_lawful};
+    ghost use Rattle.desk_seats.specs.Ran.{ran_next, ran_issued, ran_unused, ran_stored, ran_still_stored, ran_confirms};
 
     ghost number = { λ a. a.pass.number };
 
@@ -127,4 +128,54 @@ impl<'a, D: Disk, J: Naming, R: Wait> Access for Seated<'a, D, J, R> {
     ghost may_settle_more = { λ a b calls id ran may. ran_still_stored J.start a.pass b.pass calls id ran.0 may };
 
     ghost may_confirm_more = { λ a b calls ran may. ran_confirms J.start J.seats a.pass b.pass calls ran.0 may };
+}
+
+impl<'a, D: Disk, J: Naming, R: Wait> Seat for Seated<'a, D, J, R> {
+    ghost use Rattle.std.specs.Prelude.{refl};
+    ghost use Rattle.spool_turns.specs.Replays.{IsReal};
+
+    type Pass = Pass<J>;
+
+    ghost start = { J.start };
+
+    ghost of_run = { J.run };
+
+    ghost seats = { J.seats };
+
+    ghost is_real = { IsReal ⟦<D as Disk>⟧ J.start J.run J.seats J.began };
+
+    ghost knows = { λ a. a.pass };
+
+    ghost pass_knows = { λ pass. pass };
+
+    fn beside(&self, pass: Pass<J>) -> Self {
+        Seated {
+            shared: self.shared,
+            pass,
+            rt: self.rt,
+        }
+    }
+
+    fn into_pass(self) -> Pass<J> {
+        let Seated { pass, .. } = self;
+        pass
+    }
+
+    fn first_conn(&self, caller: u32) -> u64 {
+        self.shared.division().first_conn(self.shared.run(), caller)
+    }
+
+    fn meet(&mut self, other: &mut Pass<J>) {
+        self.shared.meet(&mut self.pass, other);
+    }
+
+    ghost knows_calls = { λ a b calls ran. ran };
+
+    ghost has_seen = { λ a x journal began is_desk same. (began, is_desk, same) };
+
+    ghost knows_words = { λ a. (refl, refl) };
+
+    ghost may_begin = { λ a conn index next. next };
+
+    ghost confirms = { λ a may. may };
 }

@@ -11,7 +11,8 @@ ghost use Rattle.spool_answers.specs.Take.{IsRefusal};
 ghost use Rattle.desk_access.specs.Batch.{MayTake, MayUse, IsPlain};
 ghost use Rattle.desk_access.specs.Desk.{DeskState};
 ghost use Rattle.desk_access.specs.Legal.{IsNext, IsUnused, IsStored};
-ghost use Rattle.spool_turns.specs.Passes.{Calls, IsAsked, LeadsBelow};
+ghost use Rattle.desk_seats.specs.Passes.{Calls, LeadsBelow};
+ghost use Rattle.spool_turns.specs.Passes.{IsAsked};
 ghost use Rattle.spool_turns.specs.Replays.{Closes, IsReal, desk_at};
 ghost use Rattle.spool_turns.specs.Levels.{HasLevel};
 

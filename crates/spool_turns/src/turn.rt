@@ -8,7 +8,7 @@ ghost use Rattle.desk_access.specs.Call.{takes, pends, confirms, marks, counts, 
 ghost use Rattle.spool_answers.specs.Take.{IsRefusal};
 ghost use Rattle.desk_access.specs.Batch.{MayTake, MayUse, IsPlain};
 ghost use Rattle.desk_access.specs.Legal.{IsNext, IsUnused};
-ghost use Rattle.spool_turns.specs.Passes.{Calls};
+ghost use Rattle.desk_seats.specs.Passes.{Calls};
 ghost use Rattle.spool_turns.specs.Replays.{IsReal};
 ghost use Rattle.spool_turns.specs.Twins.{of_spool};
 

@@ -105,7 +105,7 @@ impl<D: Disk> Unnamed<D> {
     ghost use Rattle.spool_log.specs.State.{view, IsIn};
     ghost use Rattle.desk_access.specs.Desk.{desk_of};
     ghost use Rattle.spool_desk.specs.Alone.{HoldsNone, IsAt};
-    ghost use Rattle.spool_turns.specs.Passes.{fresh};
+    ghost use Rattle.desk_seats.specs.Passes.{fresh};
     ghost use Rattle.spool_turns.specs.Named.{IsName};
 
     /// Tables of seats beside the desk. Its spool isn't in doubt, and its ids are of the spool's run and hold none. A

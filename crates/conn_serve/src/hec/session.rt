@@ -2,9 +2,10 @@
 ghost use Rattle.std.specs.Prelude.{◌≡◌, ◌≢◌, ◌↔◌, ◌+◌, ◌<◌, [], Some, None, IfOk, IfErr, IfSome, IsTrue};
 ghost use Rattle.event_form.specs.declared.feed_fault.FeedFault.TheVariants as feed;
 ghost use Rattle.http_edge.specs.Reading.{come};
-ghost use Rattle.http_edge.specs.Window.{Reads, clear};
+ghost use Rattle.http_edge.specs.Window.{Reads, clear, held_of};
 ghost use Rattle.desk_access.specs.Carried.{Carried};
 ghost use Rattle.conn_serve.specs.Hec.{hec};
+ghost use Rattle.conn_serve.specs.Memory.{need_of};
 ghost use Rattle.conn_serve.specs.Terms.{terms_with};
 ghost use Rattle.conn_serve.specs.Handled.{Handled, Served, Closing};
 ghost use Rattle.conn_serve.specs.HecServing.{GivesAsked, IsIdle, IsSoundAsked, ReadsBy};
@@ -13,6 +14,7 @@ use super::act::serve_item;
 use super::asked::Asked;
 use super::last::LastReply;
 use crate::connection::Connection;
+use crate::memory::need_of;
 use crate::session::Session;
 use crate::talk::say;
 use desk_access::Access;
@@ -22,6 +24,10 @@ use hec_session::HecCore;
 use hec_tokens::TokenList;
 use http_edge::{HttpFault, HttpWindow, ItemRef};
 use std::alloc::{AllocError, Global};
+
+// How many bytes of memory a connection takes at most: what a long read brings, the window, the events of a request with their copies, and
+// its reply.
+const WHOLE: u64 = 8_388_608;
 
 /// The window over the bytes, the receiver with its tokens, the buffer of replies, and why the window took no more
 /// bytes.
@@ -101,6 +107,12 @@ impl Session for HecSession {
     ghost settled = { λ s. IsIdle s.window s.met × (s.met ≡ None) };
 
     ghost extent = { λ s. s.window.reading.at + come s.window.reading };
+
+    ghost takes = { λ s asked more. need_of 8388608 asked (held_of s.window + more) };
+
+    fn need(&self, asked: usize, more: usize) -> u64 {
+        need_of(WHOLE, asked, self.window.held(), more)
+    }
 
     fn feed(&mut self, piece: &[u8]) -> usize {
         match self.window.feed(piece) {

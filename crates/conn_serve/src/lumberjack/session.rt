@@ -1,5 +1,5 @@
 //! A session of Lumberjack.
-ghost use Rattle.std.specs.Prelude.{◌≡◌, ◌+◌, ◌<◌, ◌^◌, List, [], length, Option, None, IfOk, IfErr, OnOk, IsErrOf, false, true};
+ghost use Rattle.std.specs.Prelude.{◌≡◌, ◌==◌, if◌then◌else◌, ◌+◌, ◌<◌, ◌^◌, List, [], length, Option, None, IfOk, IfErr, OnOk, IsErrOf, false, true};
 ghost use Rattle.lumber_frame.specs.declared.fault.LumberFault.{LumberFault as TheFault};
 ghost use Rattle.lumber_frame.specs.declared.frame.LumberFrame.{LumberFrame};
 ghost use Rattle.lumber_frame.specs.declared.limits.TheConstants.{ROOM};
@@ -7,19 +7,21 @@ ghost use Rattle.lumber_frame.specs.declared.side.Side.TheVariants.{Receiver};
 ghost use Rattle.lumber_frame.specs.Reading.{receiver};
 ghost use Rattle.lumber_frame.specs.Spelling.{Spells};
 ghost use Rattle.lumber_session.specs.Counting.{IsBehind, unused};
-ghost use Rattle.stream_grammar.specs.Reading.{clear, Reads};
+ghost use Rattle.stream_grammar.specs.Reading.{clear, held_of, Reads};
 ghost use Rattle.desk_access.specs.Carried.{Carried};
 ghost use Rattle.desk_access.specs.Endings.{IsAtMove};
 ghost use Rattle.conn_serve.specs.Lumber.{lumberjack};
 ghost use Rattle.conn_serve.specs.Done.{Anyway, Done, Leads, SoFar};
 ghost use Rattle.conn_serve.specs.Endings.{CountsFaults};
 ghost use Rattle.conn_serve.specs.Says.{CouldEnd, MaySay};
+ghost use Rattle.conn_serve.specs.Memory.{need_of};
 ghost use Rattle.conn_serve.specs.Terms.{no_tokens, terms_with};
 ghost use Rattle.conn_serve.specs.Handled.{Served, Closing, ReadBy, IsIdle, GivesNext};
 ghost use Rattle.conn_serve.specs.LumberServing.{Handles};
 
 use super::act::{commit, serve_frame};
 use crate::connection::Connection;
+use crate::memory::need_of;
 use crate::session::Session;
 use crate::staged::Staged;
 use desk_access::Access;
@@ -28,6 +30,9 @@ use event_form::{Talk, Why};
 use lumber_frame::{LumberFault, LumberWindow};
 use lumber_session::LumberCore;
 use std::alloc::{AllocError, Global};
+
+// How many bytes of memory a connection takes at most: what a long read brings, the window, and a batch with its copies.
+const WHOLE: u64 = 1_310_720;
 
 /// The window over the bytes, the session's state, what is staged, and the fault that the window has met.
 #[derive(Drop)]
@@ -116,6 +121,16 @@ impl Session for LumberSession {
     ghost settled = { λ s. IsIdle ROOM s.window × (s.fault ≡ None) };
 
     ghost extent = { λ s. s.window.at + length s.window.rest };
+
+    ghost takes = { λ s asked more.
+        if length s.staged.entries.items == 0 then need_of 1310720 asked (held_of s.window + more) else 1310720 };
+
+    fn need(&self, asked: usize, more: usize) -> u64 {
+        if !self.staged.entries.is_empty() {
+            return WHOLE;
+        }
+        need_of(WHOLE, asked, self.window.held(), more)
+    }
 
     fn feed(&mut self, piece: &[u8]) -> usize {
         match self.window.feed(piece) {

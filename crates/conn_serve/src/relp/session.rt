@@ -5,13 +5,14 @@ ghost use Rattle.relp_frame.specs.Spelling.{IsSpelling};
 ghost use Rattle.relp_frame.specs.declared.fault.RelpFault.{RelpFault as TheFault};
 ghost use Rattle.relp_frame.specs.declared.limits.TheConstants.{ROOM};
 ghost use Rattle.relp_session.specs.declared.state.State.TheVariants.{Unopened};
-ghost use Rattle.stream_grammar.specs.Reading.{clear, Reads};
+ghost use Rattle.stream_grammar.specs.Reading.{clear, held_of, Reads};
 ghost use Rattle.desk_access.specs.Carried.{Carried};
 ghost use Rattle.desk_access.specs.Endings.{IsAtMove};
 ghost use Rattle.conn_serve.specs.Runs.{relp_runs};
 ghost use Rattle.conn_serve.specs.Done.{Anyway, Done, Leads};
 ghost use Rattle.conn_serve.specs.Endings.{CountsFaults};
 ghost use Rattle.conn_serve.specs.Says.{CouldEnd, MaySay};
+ghost use Rattle.conn_serve.specs.Memory.{need_of};
 ghost use Rattle.conn_serve.specs.Terms.{most_of, runs_of};
 ghost use Rattle.conn_serve.specs.Handled.{Served, Closing, ReadBy, IsIdle, GivesNext};
 ghost use Rattle.conn_serve.specs.RelpServing.{Handles, IsStaged};
@@ -21,6 +22,7 @@ use super::run::Run;
 use super::store::store_all;
 use super::texts::Texts;
 use crate::connection::Connection;
+use crate::memory::need_of;
 use crate::session::Session;
 use desk_access::Access;
 use edge_io::Link;
@@ -28,6 +30,9 @@ use event_form::{Talk, Why};
 use relp_frame::{RelpFault, RelpWindow};
 use relp_session::RelpCore;
 use std::alloc::{AllocError, Global};
+
+// How many bytes of memory a connection takes at most: what a long read brings, the window, and a run of events with its answers.
+const WHOLE: u64 = 524_288;
 
 /// The window over the bytes, how far the session is, the memory for its texts, the run that is stored next, whether that
 /// may have several events, and the fault that the window has met.
@@ -121,6 +126,12 @@ impl Session for RelpSession {
     ghost settled = { λ s. IsIdle ROOM s.window × (s.fault ≡ None) };
 
     ghost extent = { λ s. s.window.at + length s.window.rest };
+
+    ghost takes = { λ s asked more. need_of 524288 asked (held_of s.window + more) };
+
+    fn need(&self, asked: usize, more: usize) -> u64 {
+        need_of(WHOLE, asked, self.window.held(), more)
+    }
 
     fn feed(&mut self, piece: &[u8]) -> usize {
         match self.window.feed(piece) {

@@ -1,4 +1,5 @@
 //! All that holds of whole connections.
+use crate::claims::memory_is_claimed;
 use crate::ends::end_text;
 use crate::faults::a_failed_call_of_the_disk_ends_the_connection;
 use crate::fields::{bytes_of, check_form, numbers_of};
@@ -28,9 +29,10 @@ fn check(rt: &impl Abort, alloc: Global, proto: Proto, row: &str, step: usize) {
     check_bytes(rt, alloc, row, "out", &left.written);
     check_bytes(rt, alloc, row, "entries", &left.entries);
     assert!(rt; left.count == taken, "another count of entries in {row}");
-    let piece = if is_grouped(rt, row) { 65_536 } else { 8_192 };
+    let (fewest, most) = left.asked;
+    let is_long = is_grouped(rt, row) && most == 65_536;
     assert!(rt;
-        left.asked == (piece, piece),
+        fewest == 8_192 && (most == 8_192 || is_long),
         "reads of other lengths in {row}"
     );
 }
@@ -81,5 +83,6 @@ fn whole_connections(rt: HostRuntime) {
     each_row_is_served(&rt, alloc);
     a_failed_call_of_the_disk_ends_the_connection(&rt, alloc);
     one_read_brings_long_runs(&rt, alloc);
+    memory_is_claimed(&rt, alloc);
     a_thousand_requests_are_answered(&rt, alloc);
 }

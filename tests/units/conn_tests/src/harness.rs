@@ -5,7 +5,7 @@ use crate::asked::Asked;
 use crate::fields::{bytes_of, number_of, numbers_of};
 use conn_serve::{Rules, attend};
 use desk_access::Access;
-use edge_io::{Both, MemSink, MemSource, Proto};
+use edge_io::{Both, MemLink, MemSink, MemSource, Proto};
 use edge_memory::MemDisk;
 use event_form::{Attended, Origin};
 use hec_ids::Ids;
@@ -130,6 +130,28 @@ pub(crate) fn is_grouped(rt: &impl Abort, row: &str) -> bool {
     number_of(rt, row, "group", 0) == 1
 }
 
+// The rules for a row.
+fn rules_of(rt: &impl Abort, proto: Proto, row: &str) -> Rules {
+    Rules {
+        proto,
+        token: Some(TOKEN),
+        ack_token: Some(ACK_TOKEN),
+        listed: TokenList::none(),
+        group: is_grouped(rt, row),
+    }
+}
+
+/// Serves a connection whose bytes are those of the row, and returns how many bytes of memory it claimed last, and at most.
+pub(crate) fn claims(rt: &impl Abort, alloc: Global, proto: Proto, row: &str) -> (u64, u64) {
+    let mut desk = desk_of(rt, alloc, row, &[]).expect(rt, "not opened");
+    let input = bytes_of(rt, alloc, row, "in");
+    let source = MemSource::of(input, usize::MAX, Vec::new(alloc));
+    let mut link = MemLink::of(source, MemSink::of(alloc, Vec::new(alloc)));
+    let rules = rules_of(rt, proto, row);
+    let _ = attend(alloc, &mut link, &rules, &mut desk, CONN);
+    (link.claimed(), link.most_claimed())
+}
+
 /// Serves a connection whose bytes are those of the row, so many times, at most `step` of them in a read. These calls of the disk fail,
 /// beside the row's. None: the device wasn't opened.
 pub(crate) fn serve(
@@ -145,13 +167,7 @@ pub(crate) fn serve(
 {
     let mut desk = desk_of(rt, alloc, row, failing)?;
     let mut link = link_of(rt, alloc, row, times, step);
-    let rules = Rules {
-        proto,
-        token: Some(TOKEN),
-        ack_token: Some(ACK_TOKEN),
-        listed: TokenList::none(),
-        group: is_grouped(rt, row),
-    };
+    let rules = rules_of(rt, proto, row);
     let attended = attend(alloc, &mut link, &rules, &mut desk, CONN);
     let written = link.sink.taken().to_vec(alloc).expect(rt, "memory");
     let (entries, count) = entries_of(rt, alloc, &mut desk);

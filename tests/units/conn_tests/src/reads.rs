@@ -10,7 +10,7 @@ const MOST_CALLS: u64 = 40;
 
 const MOST_TEXTS: u64 = 8;
 
-// So many `syslog` frames whose data have that many bytes, in as many bytes, which one read brings. How many calls of the disk store
+// So many `syslog` frames whose data have that many bytes, which two reads bring: one of 8,192 bytes, and a long one. How many calls of the disk store
 // them, and how many texts answer them and the `open`.
 struct Burst {
     events: u64,
@@ -19,19 +19,20 @@ struct Burst {
     texts: u64,
 }
 
-// 57,903 bytes whose events are one group, and 62,903 whose first 512 are one, and the other 88 the next one.
+// 57,903 bytes, whose first 71 events are one group and the other 429 the next one; and 62,903, of which the long read brings 522 events, the
+// first 512 one group, and the other 10 the next one.
 const BURSTS: &[Burst] = &[
     Burst {
         events: 500,
         size: 100,
-        calls: 4,
-        texts: 2,
+        calls: 8,
+        texts: 3,
     },
     Burst {
         events: 600,
         size: 90,
-        calls: 8,
-        texts: 3,
+        calls: 12,
+        texts: 4,
     },
 ];
 
@@ -92,18 +93,18 @@ fn texts_of(rt: &impl Abort, alloc: Global, burst: &Burst) -> u64 {
     panic!(rt; "more texts than a row writes")
 }
 
-/// All events that one read of up to 65,536 bytes brings are stored and answered before the next read, which fails here; up to 512 of
-/// them by four calls of the disk, and in one text.
+/// A read asks for 8,192 bytes at first, and for 65,536 after one that was full. All events that one brings are stored and answered before
+/// the next one, the third of which fails here; up to 512 of them by four calls of the disk, and in one text.
 pub(crate) fn one_read_brings_long_runs(rt: &impl Abort, alloc: Global) {
     for burst in BURSTS {
-        let row = row_of(rt, alloc, burst, "reads 1");
+        let row = row_of(rt, alloc, burst, "reads 2");
         let left = serve_burst(rt, alloc, &row, &[]).expect(rt, "not opened");
         let Attended { talk, taken } = left.attended;
         assert!(rt;
             talk == Talk::ReadFault && taken == burst.events,
             "{taken} taken"
         );
-        assert!(rt; left.asked == (65_536, 65_536), "reads of other lengths");
+        assert!(rt; left.asked == (8_192, 65_536), "reads of other lengths");
         check_bytes(rt, alloc, &row, "out", &left.written);
         check_bytes(rt, alloc, &row, "entries", &left.entries);
         let calls = calls_of(rt, alloc, &row);

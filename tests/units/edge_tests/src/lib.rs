@@ -27,6 +27,8 @@ mod ranges;
 #[cfg(test)]
 mod said;
 #[cfg(test)]
+mod scraped;
+#[cfg(test)]
 mod sockets;
 #[cfg(test)]
 mod staged;

@@ -7,7 +7,7 @@ use std::process::Abort;
 fn topic(peer: u8, code: u16) -> Topic {
     Topic {
         peer: IpAddr::V4(Ipv4Addr::new(10, 0, 0, peer)),
-        matter: Matter::RequestRefused { code },
+        matter: Matter::RequestRefused { code, reason: None },
     }
 }
 

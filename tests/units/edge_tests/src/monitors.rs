@@ -1,6 +1,6 @@
 //! Those who ask for numbers over the loopback's sockets.
 use crate::sockets::{bound, free_place, pair};
-use edge_io::{Door, EventCounts, Monitor, Net, NetFault, Proto, Sink, SpoolNumbers};
+use edge_io::{Door, EventCounts, Monitor, Net, NetFault, Proto, Shortage, Sink, SpoolNumbers};
 use edge_net::{Reports, TcpMonitor, TcpNet, Waits};
 use std::io::{self, Read, Write};
 use std::net::{Shutdown, TcpStream};
@@ -153,9 +153,9 @@ fn other_requests_are_refused(
         ("1 open 0 \n\r\n\r\n", "400 Bad Request"),
         ("GET /health HTTP/2\r\n\r\n", "400 Bad Request"),
     ] {
-        let (is_asked, text) = answer(rt, host, monitor, place, request, &NUMBERS);
+        let (_, text) = answer(rt, host, monitor, place, request, &NUMBERS);
         let body = assert_answer(rt, &text, status);
-        assert!(rt; !is_asked && body.is_empty() == request.starts_with("HEAD"));
+        assert!(rt; body.is_empty() == request.starts_with("HEAD"));
         let is_method = has_line(&text, "Allow: GET, HEAD");
         assert!(rt; is_method == status.starts_with("405"), "{text}");
     }
@@ -167,7 +167,8 @@ fn is_closed(rt: &impl Abort, stream: &mut TcpStream) -> bool {
     matches!(stream.read(&mut [0u8; 8]), Ok(0))
 }
 
-// How long it takes until the peer has closed the connection, while the monitor looks for those who ask. Nobody asks for numbers.
+// How long it takes until the peer has closed the connection, while the monitor looks for those who ask. Nobody asks for numbers
+// but the monitor itself.
 fn closed_after(
     rt: &(impl Abort + Clock),
     monitor: &mut HostMonitor<'_>,
@@ -175,7 +176,7 @@ fn closed_after(
 ) -> Duration {
     let start = Instant::now(rt).expect(rt, "a clock");
     for _ in 0..10_000u32 {
-        assert!(rt; !tell(monitor, &NUMBERS), "nobody asks");
+        let _ = tell(monitor, &NUMBERS);
         if is_closed(rt, stream) {
             break;
         }
@@ -193,12 +194,15 @@ fn what_is_no_request_is_closed(
     let long = vec![in rt.alloc(); b'x'; 8_192].expect(rt, "memory");
     let long = str::from_utf8(&long).expect(rt, "a text");
     for request in ["", "GET /metrics HTTP/1.1\r\n"] {
-        let (is_asked, text) = answer(rt, host, monitor, place, request, &NUMBERS);
-        assert!(rt; !is_asked && text.is_empty(), "{request}");
+        let (_, text) = answer(rt, host, monitor, place, request, &NUMBERS);
+        assert!(rt; text.is_empty(), "{request}");
     }
-    let whole = asker(rt, host, place, long);
-    assert!(rt; !tell(monitor, &NUMBERS), "it is too long");
-    drop(whole);
+    let mut whole = asker(rt, host, place, long);
+    let _ = tell(monitor, &NUMBERS);
+    assert!(rt;
+        whole.read(&mut [0u8; 8]).unwrap_or(0) == 0,
+        "it is too long"
+    );
     for request in ["", "GET /metrics HTTP/1.1\r\n"] {
         let mut stream = asker(rt, host, place, request);
         let waited = closed_after(rt, monitor, &mut stream);
@@ -216,15 +220,28 @@ fn asks_slowly(rt: &(impl Abort + AllocGlobal + Clock), stream: TcpStream) -> St
     heard(rt, stream)
 }
 
-// Tells numbers to the next who asks for some. Gives how long that takes.
-fn tell_next(rt: &(impl Abort + Clock), monitor: &mut HostMonitor<'_>) -> Duration {
+// Tells numbers until the peer has heard an answer and its end. Gives what it heard, and how long that took.
+fn told(
+    rt: &(impl Abort + AllocGlobal + Clock),
+    monitor: &mut HostMonitor<'_>,
+    stream: TcpStream,
+) -> (String, Duration) {
+    let mut stream = stream;
+    let (mut text, mut buf) = (String::new(rt.alloc()), [0u8; 512]);
     let start = Instant::now(rt).expect(rt, "a clock");
-    for _ in 0..1_000u32 {
-        if tell(monitor, &NUMBERS) {
-            break;
+    assert!(rt; stream.set_nonblocking(true).is_ok());
+    for _ in 0..100_000u32 {
+        let _ = tell(monitor, &NUMBERS);
+        match stream.read(&mut buf) {
+            Ok(0) => break,
+            Ok(n) => {
+                let part = str::from_utf8(&buf[..n]).expect(rt, "a text");
+                assert!(rt; text.push_str(part).is_ok());
+            }
+            Err(_) => {}
         }
     }
-    start.elapsed(rt).expect(rt, "a clock")
+    (text, start.elapsed(rt).expect(rt, "a clock"))
 }
 
 // One whose request comes slowly is answered after one who comes later and asks at once.
@@ -240,10 +257,11 @@ fn who_asks_at_once_is_answered_first(
         rt,
         || asks_slowly(rt, slow),
         || {
-            let waited = tell_next(rt, monitor);
+            let (text, waited) = told(rt, monitor, next);
             assert!(rt; waited < Duration::from_millis(250), "{waited:?}");
-            let text = heard(rt, next);
-            let _ = tell_next(rt, monitor);
+            for _ in 0..100u32 {
+                let _ = tell(monitor, &NUMBERS);
+            }
             text
         },
     );
@@ -263,25 +281,33 @@ fn silent_askers_keep_nobody_waiting(
         let stream = asker(rt, host, place, "GET /health HTTP/1.1\r\n");
         assert!(rt; silent.push(stream).is_ok());
     }
-    assert!(rt; !tell(monitor, &NUMBERS), "all are silent");
+    let _ = tell(monitor, &NUMBERS);
     let next = asker(rt, host, place, HEALTH);
-    let waited = tell_next(rt, monitor);
+    let (text, waited) = told(rt, monitor, next);
     assert!(rt; waited < Duration::from_secs(1), "{waited:?}");
-    assert!(rt; assert_answer(rt, &heard(rt, next), "200 OK") == "ok\n");
+    assert!(rt; assert_answer(rt, &text, "200 OK") == "ok\n");
     for (number, stream) in silent.iter_mut().enumerate() {
         assert!(rt; is_closed(rt, stream) == (number == 0), "{number}");
     }
     drop(silent);
-    assert!(rt; !tell(monitor, &NUMBERS));
+    let _ = tell(monitor, &NUMBERS);
 }
 
+// The monitor asks itself once a second.
 fn nobody_asks(rt: &(impl Abort + Clock), monitor: &mut HostMonitor<'_>) {
+    let start = Instant::now(rt).expect(rt, "a clock");
+    assert!(rt; tell(monitor, &NUMBERS), "the first look");
+    for _ in 0..1_000u32 {
+        if tell(monitor, &NUMBERS) {
+            break;
+        }
+    }
+    let waited = start.elapsed(rt).expect(rt, "a clock");
+    assert!(rt; Duration::from_millis(990) < waited && waited < Duration::from_secs(10));
     let start = Instant::now(rt).expect(rt, "a clock");
     assert!(rt; !monitor.is_asked());
     let waited = start.elapsed(rt).expect(rt, "a clock");
     assert!(rt; Duration::from_millis(25) < waited);
-    // (nobody learns of it)
-    monitor.tell(&NUMBERS);
 }
 
 // What `/health` says, by these numbers.
@@ -297,12 +323,15 @@ fn health(
     text
 }
 
-// A connection of a sender comes, and ends with this status.
-fn serve_one(rt: &impl Abort, net: &mut TcpNet<'_, HostRuntime>, place: &str, status: u8) {
+// A connection of a sender comes, and ends since this lacked.
+fn serve_one(rt: &impl Abort, net: &mut TcpNet<'_, HostRuntime>, place: &str, shortage: Shortage) {
     let mut door = bound(rt, net, place);
     let (near, far) = pair(rt, net, &mut door, place);
     net.hang_up(near);
-    assert!(rt; door.give_back(far, Proto::Relp, 0, status).is_ok());
+    assert!(rt;
+        door.give_back(far, Proto::Relp, 0, 67, Some(shortage))
+            .is_ok()
+    );
 }
 
 fn health_says_what_is_wrong(
@@ -318,7 +347,15 @@ fn health_says_what_is_wrong(
         assert_answer(rt, &text, "200 OK") == "ok\n",
         "nothing was refused"
     );
-    serve_one(rt, &mut net, &free_place(rt, host), 67);
+    for shortage in [Shortage::Slot, Shortage::Ids] {
+        serve_one(rt, &mut net, &free_place(rt, host), shortage);
+        let text = health(rt, host, &mut monitor, &place, &FULL);
+        assert!(rt;
+            assert_answer(rt, &text, "200 OK") == "ok\n",
+            "it isn't room that lacked"
+        );
+    }
+    serve_one(rt, &mut net, &free_place(rt, host), Shortage::Room);
     let wrong = "503 Service Unavailable";
     for _ in 0..2 {
         let text = health(rt, host, &mut monitor, &place, &FULL);
@@ -379,12 +416,12 @@ fn connections_are_counted(rt: &(impl Abort + AllocGlobal), host: &HostRuntime) 
         open.as_str(),
         "bridge_receiver_sessions_total 1",
         "bridge_receiver_dials_failed_total 0",
-        "bridge_sender_refusals_total 0",
+        "bridge_sender_refusals_total{protocol=\"hec\",code=\"400\"} 0",
     ];
     assert_page(rt, host, &mut monitor, &place, &lines);
     assert!(rt; far.write(b"HTTP/1.1 400 No\r\n").is_ok());
     net.hang_up(near);
-    assert!(rt; door.give_back(far, Proto::Hec, 0, 66).is_ok());
+    assert!(rt; door.give_back(far, Proto::Hec, 0, 66, None).is_ok());
     assert!(rt; net.dial("127.0.0.1").is_err());
     let rest = ",protocol=\"hec\",status=\"66\"} 1";
     let ended = sample(rt, "ended_total", &senders, rest);
@@ -394,7 +431,7 @@ fn connections_are_counted(rt: &(impl Abort + AllocGlobal), host: &HostRuntime) 
         open.as_str(),
         ended.as_str(),
         "bridge_receiver_dials_failed_total 1",
-        "bridge_sender_refusals_total 1",
+        "bridge_sender_refusals_total{protocol=\"hec\",code=\"400\"} 1",
     ];
     assert_page(rt, host, &mut monitor, &place, &lines);
 }

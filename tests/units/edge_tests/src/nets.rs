@@ -55,9 +55,9 @@ fn serve_two(rt: &impl Abort, door: &mut MemDoor) {
     assert!(rt; matches!(door.accept(), Ok(None)), "no link is left");
     let counts = [first.read(&mut [0u8; 8]).ok(), first.write(b"answer").ok()];
     assert!(rt; counts == [Some(4), Some(6)]);
-    let given = door.give_back(second, Proto::Hec, 8, 0);
+    let given = door.give_back(second, Proto::Hec, 8, 0, None);
     given.expect(rt, "memory");
-    let given = door.give_back(first, Proto::Relp, 7, 66);
+    let given = door.give_back(first, Proto::Relp, 7, 66, None);
     given.expect(rt, "memory");
 }
 

@@ -1,7 +1,7 @@
 //! What a net says of what befalls its doors and links, by a clock and a standard error in memory.
 use crate::sockets::free_place;
 use crate::staged::Staged;
-use edge_io::{Door, HeldUp, Net, Pause, Proto, Sink, Source};
+use edge_io::{Door, HeldUp, Net, Pause, Proto, Shortage, Sink, Source};
 use edge_net::{Reports, TcpDoor, TcpLink, TcpNet, Waits};
 use std::alloc::Global;
 use std::process::Abort;
@@ -76,7 +76,7 @@ const HELD_UP: [(HeldUp, Option<&str>); 8] = [
 ];
 
 // Waits of a second for a peer, and none of doors for each other.
-fn waits() -> Waits {
+pub(crate) fn waits() -> Waits {
     Waits {
         accepted: Duration::from_secs(1),
         dialed: Duration::from_secs(1),
@@ -119,7 +119,7 @@ fn assert_sender(rt: &impl Abort, staged: &Staged<'_>, words: &str) {
 }
 
 // A door that is bound at the place, which is said.
-fn bound<'a, 'h>(
+pub(crate) fn bound<'a, 'h>(
     rt: &impl Abort,
     staged: &Staged<'_>,
     net: &mut StagedNet<'a, 'h>,
@@ -131,7 +131,7 @@ fn bound<'a, 'h>(
 }
 
 // A link that is dialed, and the one that is accepted for it.
-fn pair<'a, 'h>(
+pub(crate) fn pair<'a, 'h>(
     rt: &impl Abort,
     net: &mut StagedNet<'a, 'h>,
     door: &mut StagedDoor<'a, 'h>,
@@ -143,7 +143,12 @@ fn pair<'a, 'h>(
 }
 
 // Sends the text, which the other link reads.
-fn pass(rt: &impl Abort, from: &mut StagedLink<'_, '_>, to: &mut StagedLink<'_, '_>, text: &str) {
+pub(crate) fn pass(
+    rt: &impl Abort,
+    from: &mut StagedLink<'_, '_>,
+    to: &mut StagedLink<'_, '_>,
+    text: &str,
+) {
     let mut buf = [0u8; 64];
     assert!(rt; from.write(text.as_bytes()) == Ok(text.len()));
     assert!(rt; to.read(&mut buf) == Ok(text.len()));
@@ -314,7 +319,7 @@ fn an_entry_that_is_held_up_is_said(
     assert_receiver(rt, staged, "nowhere", line);
 }
 
-// A sender's connection is served to its end, which has this status.
+// A sender's connection is served to its end, which has this status, and this lacked then, if anything did.
 fn serve_to<'a, 'h>(
     rt: &impl Abort,
     net: &mut StagedNet<'a, 'h>,
@@ -322,11 +327,31 @@ fn serve_to<'a, 'h>(
     place: &str,
     proto: Proto,
     status: u8,
+    shortage: Option<Shortage>,
 ) {
     let (near, far) = pair(rt, net, door, place);
     net.hang_up(near);
-    assert!(rt; door.give_back(far, proto, 0, status).is_ok());
+    assert!(rt; door.give_back(far, proto, 0, status, shortage).is_ok());
 }
+
+// What is said of a connection that ended since this lacked.
+const SHORT: [(Proto, Shortage, &str); 3] = [
+    (
+        Proto::Lumberjack,
+        Shortage::Room,
+        ": its Lumberjack connection ended with 67: FILE has no room",
+    ),
+    (
+        Proto::Relp,
+        Shortage::Slot,
+        ": its RELP connection ended with 67: the event is larger than a slot of FILE",
+    ),
+    (
+        Proto::Hec,
+        Shortage::Ids,
+        ": its HEC connection ended with 67: the table of ack ids is full",
+    ),
+];
 
 fn endings_are_said_once_a_minute(
     rt: &impl Abort,
@@ -335,22 +360,23 @@ fn endings_are_said_once_a_minute(
     place: &str,
 ) {
     let mut door = bound(rt, staged, net, place);
-    serve_to(rt, net, &mut door, place, Proto::Relp, 0);
+    serve_to(rt, net, &mut door, place, Proto::Relp, 0, None);
     assert_silence(rt, staged);
     let words = ": its RELP connection ended with 66: its bytes break the protocol";
-    serve_to(rt, net, &mut door, place, Proto::Relp, 66);
+    serve_to(rt, net, &mut door, place, Proto::Relp, 66, None);
     assert_sender(rt, staged, words);
-    serve_to(rt, net, &mut door, place, Proto::Relp, 66);
-    serve_to(rt, net, &mut door, place, Proto::Relp, 66);
+    serve_to(rt, net, &mut door, place, Proto::Relp, 66, None);
+    serve_to(rt, net, &mut door, place, Proto::Relp, 66, None);
     assert_silence(rt, staged);
-    let full = ": its Lumberjack connection ended with 67: FILE has no room";
-    serve_to(rt, net, &mut door, place, Proto::Lumberjack, 67);
-    assert_sender(rt, staged, full);
+    for (proto, shortage, words) in SHORT {
+        serve_to(rt, net, &mut door, place, proto, 67, Some(shortage));
+        assert_sender(rt, staged, words);
+    }
     staged.pass(MINUTE);
-    serve_to(rt, net, &mut door, place, Proto::Relp, 66);
+    serve_to(rt, net, &mut door, place, Proto::Relp, 66, None);
     let words = ": its bytes break the protocol; 3 times since the last such line";
     assert_sender(rt, staged, words);
-    serve_to(rt, net, &mut door, place, Proto::Hec, 73);
+    serve_to(rt, net, &mut door, place, Proto::Hec, 73, None);
     let failed = ": its HEC connection ended with 73: a call on FILE failed";
     assert_sender(rt, staged, failed);
 }
@@ -368,7 +394,7 @@ fn resets_are_said(rt: &impl Abort, staged: &Staged<'_>, net: &mut StagedNet<'_,
         // closed with bytes unread, it resets the connection
         net.hang_up(near);
         assert!(rt; far.read(&mut [0u8; 16]).is_err());
-        assert!(rt; door.give_back(far, Proto::Relp, 0, 71).is_ok());
+        assert!(rt; door.give_back(far, Proto::Relp, 0, 71, None).is_ok());
         if is_read {
             let words = ": its RELP connection ended with 71: it reset the connection";
             assert_sender(rt, staged, words);
@@ -388,13 +414,13 @@ fn waits_in_vain_are_said(
     let (near, mut far) = pair(rt, net, &mut door, place);
     assert!(rt; far.read(&mut [0u8; 8]).is_err());
     drop(near);
-    assert!(rt; door.give_back(far, Proto::Hec, 0, 71).is_ok());
+    assert!(rt; door.give_back(far, Proto::Hec, 0, 71, None).is_ok());
     let words = ": its HEC connection ended with 71: it sent nothing for 1 seconds";
     assert_sender(rt, staged, words);
     let (near, mut far) = pair(rt, net, &mut door, place);
     assert!(rt; write_until_it_fails(&mut far));
     drop(near);
-    assert!(rt; door.give_back(far, Proto::Hec, 0, 72).is_ok());
+    assert!(rt; door.give_back(far, Proto::Hec, 0, 72, None).is_ok());
     let words = ": its HEC connection ended with 72: it took nothing for 1 seconds";
     assert_sender(rt, staged, words);
 }
@@ -409,6 +435,22 @@ fn refusals_are_said_by_their_codes(
     for (text, words) in [
         ("HTTP/1.1 401 No\r\n", ": a request was refused with 401"),
         ("HTTP/1.1 503 No\r\n", ": a request was refused with 503"),
+        (
+            "HTTP/1.1 401 No\r\n\r\n{\"text\":\"Token is required\",\"code\":2}",
+            ": a request was refused with 401, code 2: it has no token",
+        ),
+        (
+            "HTTP/1.1 403 No\r\n\r\n{\"text\":\"Invalid token\",\"code\":4}",
+            ": a request was refused with 403, code 4: its token isn't known",
+        ),
+        (
+            "HTTP/1.1 400 No\r\n\r\n{\"text\":\"ACK is disabled\",\"code\":14}",
+            ": a request was refused with 400, code 14: its token has no ack ids",
+        ),
+        (
+            "HTTP/1.1 400 No\r\n\r\n{\"code\":6,\"invalid-event-number\":1}",
+            ": a request was refused with 400, code 6: its body isn't one that is taken",
+        ),
         ("2 rsp 12 500 not open\n", ": a frame was refused with 500"),
     ] {
         let (mut near, mut far) = pair(rt, net, &mut door, place);
@@ -419,14 +461,14 @@ fn refusals_are_said_by_their_codes(
         // a second time within a minute, and the connection's end
         assert!(rt; far.write(text.as_bytes()) == Ok(text.len()));
         drop(near);
-        assert!(rt; door.give_back(far, Proto::Hec, 0, 66).is_ok());
+        assert!(rt; door.give_back(far, Proto::Hec, 0, 66, None).is_ok());
         assert_silence(rt, staged);
     }
     // what a peer writes so is no refusal of bridge
     let (mut near, mut far) = pair(rt, net, &mut door, place);
     pass(rt, &mut near, &mut far, "HTTP/1.1 401 No\r\n");
     net.hang_up(near);
-    assert!(rt; door.give_back(far, Proto::Hec, 0, 0).is_ok());
+    assert!(rt; door.give_back(far, Proto::Hec, 0, 0, None).is_ok());
     assert_silence(rt, staged);
 }
 
@@ -445,7 +487,7 @@ fn a_quiet_net_says_nothing(
     let (mut near, mut far) = pair(rt, net, &mut door, place);
     pass(rt, &mut far, &mut near, "HTTP/1.1 401 No\r\n");
     net.hang_up(near);
-    assert!(rt; door.give_back(far, Proto::Hec, 0, 66).is_ok());
+    assert!(rt; door.give_back(far, Proto::Hec, 0, 66, None).is_ok());
     for _ in 0..4 {
         net.pause();
         net.report_held_up(place, &REFUSED);

@@ -63,7 +63,7 @@ fn links_are_dialed_accepted_read_and_written(
         pass(rt, &mut far, &mut near, b"answer");
         net.hang_up(near);
         assert!(rt; far.read(&mut [0u8; 16]) == Ok(0), "the peer has hung up");
-        assert!(rt; door.give_back(far, Proto::Relp, 0, 0).is_ok());
+        assert!(rt; door.give_back(far, Proto::Relp, 0, 0, None).is_ok());
     }
 }
 
@@ -101,7 +101,7 @@ fn a_peer_that_resets_is_a_fault(rt: &impl Abort, net: &mut TcpNet<'_, HostRunti
     net.hang_up(near);
     assert!(rt; far.read(&mut [0u8; 16]) == Err(ReadFault));
     assert!(rt; far.write(b"more").is_err());
-    assert!(rt; door.give_back(far, Proto::Relp, 0, 0).is_ok());
+    assert!(rt; door.give_back(far, Proto::Relp, 0, 0, None).is_ok());
 }
 
 // A peer that is silent and stays is given up.
@@ -113,7 +113,7 @@ fn a_silent_peer_is_given_up<'a>(
 ) {
     let (mut silent, unread) = pair(rt, net, door, place);
     let start = Instant::now(rt).expect(rt, "a clock");
-    assert!(rt; door.give_back(unread, Proto::Hec, 0, 66).is_ok());
+    assert!(rt; door.give_back(unread, Proto::Hec, 0, 66, None).is_ok());
     let waited = start.elapsed(rt).expect(rt, "a clock");
     assert!(rt; waited < Duration::from_secs(20));
     assert!(rt; silent.read(&mut [0u8; 16]) == Ok(0));
@@ -136,7 +136,7 @@ fn answers_and_gives_back<'a>(
     mut link: TcpLink<'a, HostRuntime>,
 ) -> bool {
     let answered = write_whole(&mut link, b"answer").is_ok();
-    let given = door.give_back(link, Proto::Hec, 0, 66).is_ok();
+    let given = door.give_back(link, Proto::Hec, 0, 66, None).is_ok();
     answered && given
 }
 

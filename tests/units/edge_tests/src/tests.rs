@@ -1,7 +1,7 @@
 //! All that holds of bytes, numbers, streams, nets and disks.
 use crate::{
-    accepts, bytes, disks, files, lines, marks, monitors, nets, pages, ranges, said, sockets,
-    streams, waits,
+    accepts, bytes, disks, files, lines, marks, monitors, nets, pages, ranges, said, scraped,
+    sockets, streams, waits,
 };
 use std::alloc::Global;
 use std::process::Abort;
@@ -55,6 +55,11 @@ fn links_and_doors(rt: HostRuntime) {
     waits::links_wait_for_a_while(&rt, &rt);
     accepts::accepts_fail_and_pass(&rt, alloc, &rt);
     said::the_net_says_what_befalls_it(&rt, alloc, &rt);
+}
+
+#[test]
+fn pages_of_numbers(rt: HostRuntime) {
+    scraped::pages_say_how_the_run_is(&rt, rt.alloc(), &rt);
 }
 
 #[test]

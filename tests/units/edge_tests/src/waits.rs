@@ -140,7 +140,7 @@ fn gives_back<'a>(
     link: TcpLink<'a, HostRuntime>,
 ) -> Option<Duration> {
     let start = Instant::now(rt).ok()?;
-    door.give_back(link, Proto::Relp, 0, 0).ok()?;
+    door.give_back(link, Proto::Relp, 0, 0, None).ok()?;
     start.elapsed(rt).ok()
 }
 

@@ -1,7 +1,10 @@
-//! Faults beside the notes that the program ends with.
+//! Faults beside the notes that the program ends with, and beside the replies and the lines that it writes.
+use body_faults::{AckFault, BodyFault};
 use disk_cell::{LoadFault, SetFault};
+use edge_file::{OpenFault, PairFault};
 use event_form::Why;
 use hec_ids::IssueFault;
+use hec_session::{HecCode, HecSay, say_body};
 use http_edge::{HttpFault, HttpWhy};
 use lumber_frame::{LumberFault, LumberWhy};
 use notes::{Note, note_text};
@@ -13,6 +16,7 @@ use spool_slots::{ScanFault, SlotFault};
 use std::alloc::Global;
 use std::fmt::Display;
 use std::process::Abort;
+use words_faults::WordsFault;
 
 // The message is the note's text.
 fn is_said<F: Display + Drop>(rt: &impl Abort, alloc: Global, fault: F, note: Note) {
@@ -230,4 +234,96 @@ pub fn faults_of_frames(rt: &impl Abort, alloc: Global) {
             Note::Fault { at: 29, why: same },
         );
     }
+}
+
+// The message is this text.
+fn says<F: Display + Drop>(rt: &impl Abort, alloc: Global, fault: F, text: &str) {
+    let message = format!(in alloc; "{fault}").expect(rt, "memory");
+    assert!(rt; message.as_str() == text, "{text}");
+}
+
+// The message is the text of the reply with this code, and after it what of the body is at fault.
+fn is_replied<F: Display + Drop>(
+    rt: &impl Abort,
+    alloc: Global,
+    fault: F,
+    code: HecCode,
+    rest: &str,
+) {
+    let message = format!(in alloc; "{fault}").expect(rt, "memory");
+    let text = message
+        .as_str()
+        .strip_suffix(rest)
+        .expect(rt, "what is at fault");
+    let body = say_body(alloc, &HecSay::of(code, None)).expect(rt, "memory");
+    let number = code.number();
+    let due = format!(in alloc; "{{\"text\":\"{text}\",\"code\":{number}}}").expect(rt, "memory");
+    assert_eq!(rt; due.as_bytes(), body.bytes());
+}
+
+pub fn faults_of_bodies(rt: &impl Abort, alloc: Global) {
+    let event = 31;
+    is_replied(rt, alloc, BodyFault::NoData, HecCode::EmptyBody, "");
+    is_replied(
+        rt,
+        alloc,
+        BodyFault::Format { event },
+        HecCode::InvalidFormat,
+        ": event 31",
+    );
+    is_replied(
+        rt,
+        alloc,
+        BodyFault::NoEvent { event },
+        HecCode::EventRequired,
+        ": event 31",
+    );
+    is_replied(
+        rt,
+        alloc,
+        BodyFault::Blank { event },
+        HecCode::EventBlank,
+        ": event 31",
+    );
+    is_replied(
+        rt,
+        alloc,
+        BodyFault::TooMany,
+        HecCode::InvalidFormat,
+        ": more than 10000 events",
+    );
+    is_said(rt, alloc, BodyFault::NoMemory, Note::NoMemory);
+    is_replied(rt, alloc, AckFault::Format, HecCode::InvalidFormat, "");
+    is_said(rt, alloc, AckFault::NoMemory, Note::NoMemory);
+}
+
+pub fn faults_of_words(rt: &impl Abort, alloc: Global) {
+    says(rt, alloc, WordsFault::NoCommand, "no command is named");
+    says(rt, alloc, WordsFault::Slots, "SLOTS: 1 to 1024");
+    says(
+        rt,
+        alloc,
+        WordsFault::Tokens,
+        "--tokens: 1 to 1000 lines, each a GUID or a GUID and ack",
+    );
+    says(
+        rt,
+        alloc,
+        WordsFault::NoForward,
+        "--to: --forward is needed",
+    );
+}
+
+pub fn faults_of_files(rt: &impl Abort, alloc: Global) {
+    says(rt, alloc, OpenFault::NotFound, "not found");
+    says(rt, alloc, OpenFault::Mounted, "its file system is mounted");
+    says(rt, alloc, PairFault::First(OpenFault::InUse), "in use");
+    says(
+        rt,
+        alloc,
+        PairFault::Second(OpenFault::IsFolder),
+        "a folder",
+    );
+    says(rt, alloc, PairFault::OneFile, "both names are of one file");
+    is_said(rt, alloc, OpenFault::NoMemory, Note::NoMemory);
 }

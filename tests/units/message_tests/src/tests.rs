@@ -1,5 +1,8 @@
 //! All that holds of messages.
-use crate::notes_of::{faults_of_disks, faults_of_frames, faults_of_ids, faults_of_spools};
+use crate::notes_of::{
+    faults_of_bodies, faults_of_disks, faults_of_files, faults_of_frames, faults_of_ids,
+    faults_of_spools, faults_of_words,
+};
 
 #[test]
 fn messages(rt: HostRuntime) {
@@ -8,4 +11,7 @@ fn messages(rt: HostRuntime) {
     faults_of_disks(&rt, alloc);
     faults_of_ids(&rt, alloc);
     faults_of_frames(&rt, alloc);
+    faults_of_bodies(&rt, alloc);
+    faults_of_words(&rt, alloc);
+    faults_of_files(&rt, alloc);
 }

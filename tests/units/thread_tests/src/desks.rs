@@ -4,7 +4,7 @@ ghost use Rattle.desk_access.specs.declared.division.Division.TheVariants.{Worke
 ghost use Rattle.spool_answers.specs.Leave.{LetsKeep};
 ghost use Rattle.spool_log.specs.Memory.{run_of};
 ghost use Rattle.spool_desk.specs.Alone.{HoldsNone};
-ghost use Rattle.spool_turns.specs.Passes.{fresh};
+ghost use Rattle.desk_seats.specs.Passes.{fresh};
 ghost use Rattle.spool_turns.specs.Named.{IsName};
 
 use desk_access::Division;

@@ -1,6 +1,6 @@
 use Rattle.std.proofs.Common.{◌∙◌, sym, subst}
-use Rattle.bridge_core.specs.Leave.{MayAnswer, MayReplay, MayTake, WasRead, MayRelease, WasWritten, HasExchangedAt, exchanges_as, MayTell}
-use Rattle.bridge_core.proofs.Leave.{answers_within, replays_within, releases_within, tells_within, tears_within}
+use Rattle.bridge_core.specs.Leave.{MayAnswer, MayReplay, MayTake, WasRead, MayRelease, WasWritten, HasExchangedAt, exchanges_as, MayTell, MayReport}
+use Rattle.bridge_core.proofs.Leave.{answers_within, replays_within, releases_within, tells_within, reports_within, tears_within}
 use Rattle.bridge_cli.proofs.over.run_serving.Goals as goal
 
 -- what is durable on the disk that is watched is so on the disk
@@ -29,6 +29,16 @@ bridge-status-requires-clause-tells g c κs within =
     let may = g.N.M.Monitor.may_tell in
     λ command asks. tells_within tells moment (λ w. w.disk) c.noting-disk.result may command
     (subst (λ d. MayTell tells moment d may command) (sym (c.noting-disk.ensures ∙ c.new.ensures)) (c.requires.tells command asks))
+
+-- what holds the forwarding up may be reported by calls on it
+pub bridge-status-requires-clause-reports : goal.bridge-status-requires-clause-reports
+bridge-status-requires-clause-reports g c κs within =
+    let tells = g.D.Disk.tells in
+    let moment = g.D.Disk.moment in
+    let at = HasExchangedAt g.N.L.Object.same g.N.L.Link.dialed g.N.L.Source.given g.N.L.Sink.taken in
+    let report = g.N.Net.may_report in
+    λ command asks. reports_within tells moment (λ w. w.disk) c.noting-disk.result at report command
+    (subst (λ d. MayReport tells moment d at report command) (sym (c.noting-disk.ensures ∙ c.new.ensures)) (c.requires.reports command asks))
 
 -- and what is received of the disk that is watched is so of the disk
 pub bridge-status-requires-clause-releases : goal.bridge-status-requires-clause-releases

@@ -12,6 +12,9 @@ serve-note-requires-clause-binds g c κs within = rw c.in-Serve.is at c.requires
 pub serve-note-requires-clause-tells : goal.serve-note-requires-clause-tells
 serve-note-requires-clause-tells g c κs within = rw c.in-Serve.is at c.requires.tells
 
+pub serve-note-requires-clause-reports : goal.serve-note-requires-clause-reports
+serve-note-requires-clause-reports g c κs within = rw c.in-Serve.is at c.requires.reports
+
 pub serve-note-requires-clause-dials : goal.serve-note-requires-clause-dials
 serve-note-requires-clause-dials g c κs within = rw c.in-Serve.is at c.requires.dials
 

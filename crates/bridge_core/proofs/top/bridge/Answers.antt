@@ -11,6 +11,9 @@ do_command-requires-clause-answers g c κs within = c.requires.answers c.in-Ok.c
 pub do_command-requires-clause-binds : goal.do_command-requires-clause-binds
 do_command-requires-clause-binds g c κs within = c.requires.binds c.in-Ok.command c.in-Ok.ensures.command
 
+pub do_command-requires-clause-reports : goal.do_command-requires-clause-reports
+do_command-requires-clause-reports g c κs within = c.requires.reports c.in-Ok.command c.in-Ok.ensures.command
+
 pub do_command-requires-clause-tells : goal.do_command-requires-clause-tells
 do_command-requires-clause-tells g c κs within = c.requires.tells c.in-Ok.command c.in-Ok.ensures.command
 

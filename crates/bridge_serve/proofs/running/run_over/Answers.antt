@@ -12,6 +12,7 @@ use Rattle.bridge_parts.proofs.Desks.{desk_at}
 use Rattle.bridge_serve.proofs.Answering.{worker_may}
 use Rattle.bridge_serve.proofs.Asked.{levels_may}
 use Rattle.bridge_serve.proofs.Releasing.{forwarder_may, if_some}
+use Rattle.bridge_serve.proofs.Reporting.{forwarder_reports}
 use Rattle.bridge_serve.proofs.Opening.{desk_is, began_at, opened_only, given_back, given_calls, ran_over, if_err}
 use Rattle.bridge_serve.proofs.running.run_over.Goals as goal
 
@@ -53,6 +54,16 @@ run_named-requires-clause-earned g c κs within =
     if_some c.args.destination _ _
     (λ d may. forwarder_may g.D.Disk c.args.before.value c.args.spool.disk c.args.spool.memory c.args.spool.doubt _ _ (divided c.args.division c.in-Ok.unnamed.run) _ from later
     d.now.outward _ g.D.Disk.may_release may) c.requires.releases
+
+pub run_named-requires-clause-reports : goal.run_named-requires-clause-reports
+run_named-requires-clause-reports g c κs within =
+    let old = g.D.Disk.moment c.args.before.value in
+    let from = c.requires.opened in
+    let later = λ (told : g.D.Disk.tells). subst (λ (d : _). old.clock ≤ (g.D.Disk.moment d.spool.disk).clock) (sym c.in-Ok.ensures.desk)
+    (from.any_moment told).later in
+    if_some c.args.destination _ _
+    (λ d may. forwarder_reports g.D.Disk c.args.before.value c.args.spool.disk c.args.spool.memory c.args.spool.doubt _ _ (divided c.args.division c.in-Ok.unnamed.run) _ from later
+    d.now.outward _ (g.N.Net.may_report d.now.place) may) c.requires.reports
 
 pub run_named-requires-clause-tells : goal.run_named-requires-clause-tells
 run_named-requires-clause-tells g c κs within =

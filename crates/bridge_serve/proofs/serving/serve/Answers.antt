@@ -11,6 +11,7 @@ use Rattle.bridge_serve.proofs.Causes.{net_bound, net_refused}
 use Rattle.bridge_serve.proofs.Doors.{few_each, few_all, all_unused, none_unused, unused_doors, tells_same, may_dial}
 use Rattle.bridge_serve.proofs.Ran.{run_binds_none, run_with, unserved_with}
 use Rattle.bridge_serve.proofs.Releasing.{may_release}
+use Rattle.bridge_serve.proofs.Reporting.{may_report}
 use Rattle.bridge_serve.proofs.serving.serve.Goals as goal
 
 pub returns-in-Err-clause-served : goal.returns-in-Err-clause-served
@@ -62,6 +63,10 @@ serve_posts-requires-clause-dials g c κs within = rw c.destination_of.ensures (
 pub serve_posts-requires-clause-releases : goal.serve_posts-requires-clause-releases
 serve_posts-requires-clause-releases g c κs within = rw (c.of-before.ensures, c.destination_of.ensures)
     (may_release g.D.Disk.tells (λ (d : _). g.D.Disk.moment d) c.args.disk c.args.server.forward _ g.D.Disk.may_release c.requires.releases)
+
+pub serve_posts-requires-clause-reports : goal.serve_posts-requires-clause-reports
+serve_posts-requires-clause-reports g c κs within = rw (c.of-before.ensures, c.destination_of.ensures)
+    (may_report g.D.Disk.tells (λ (d : _). g.D.Disk.moment d) c.args.disk c.args.server.forward _ g.N.Net.may_report c.requires.reports)
 
 pub returns-in-Ok-bind_places-clause-served : goal.returns-in-Ok-bind_places-clause-served
 returns-in-Ok-bind_places-clause-served g c =

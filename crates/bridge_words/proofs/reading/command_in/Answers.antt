@@ -1,6 +1,6 @@
 -- The command of a name.
 use Rattle.std.proofs.Common.{◌≡◌}
-use Rattle.bridge_words.specs.declared.fault.WordsFault.TheVariants.{UnknownWord}
+use Rattle.words_faults.specs.declared.fault.WordsFault.TheVariants.{UnknownWord}
 use Rattle.bridge_words.specs.Wrong.WrongBy.{no_name, in_format, in_list, in_replay, in_drain, in_load, in_serve}
 use Rattle.bridge_words.proofs.Once.{same_text, named, unknown}
 use Rattle.bridge_words.proofs.reading.command_in.Goals as goal

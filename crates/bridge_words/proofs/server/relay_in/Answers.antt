@@ -1,6 +1,6 @@
 use Rattle.std.proofs.Common.{◌≡◌, ◌∙◌, sym, subst}
 use Rattle.std.specs.Prelude.{Err}
-use Rattle.bridge_words.specs.declared.fault.WordsFault.{WordsFault}
+use Rattle.words_faults.specs.declared.fault.WordsFault.{WordsFault}
 use Rattle.bridge_words.specs.Values.{rows_in, polls_in}
 use Rattle.bridge_words.specs.Words.{relay_in}
 use Rattle.bridge_words.proofs.Together.{told_as, relay_channel, relay_polls, relay_all}

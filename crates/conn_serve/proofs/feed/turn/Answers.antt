@@ -16,7 +16,7 @@ returns-in-Err g c =
       room = tt;
       goes = tt;
       halts = turn_unread _ _ _ _ _ _ _ _ (g.S.Session.served number c.args.session.now) _ (g.met.A.Access.ran_none _) read.given read.left keeps.0 (λ fed called said s.
-          c.requires.may_end.read_fault (g.L.Source.left c.read.new.self) fed called said s);
+          c.requires.may_end.read_fault (g.L.Source.left c.read_next.new.link) fed called said s);
       end = tt;
       only = inl refl;
       idle = tt;
@@ -38,8 +38,8 @@ take_in-requires g c =
       fits = piece_fits _ _ _ _ _ few c.requires.fits;
       so_far = so_far_less _ _ _ _ (piece_few _ _ _ few) c.requires.so_far;
       may = c.requires.may;
-      says = says_read (g.A.Access.ran c.args.access.now) (g.L.Sink.permits c.read.new.self) (g.L.Sink.taken c.args.link.now) (g.L.Sink.taken c.read.new.self) _ (g.met.L.Link.reads_keep _ _ c.in-Ok.ensures.apart).0
-          (c.requires.says c.read.new.self (take c.in-Ok.len c.read.new.buf) c.in-Ok.ensures.same c.in-Ok.ensures.given);
+      says = says_read (g.A.Access.ran c.args.access.now) (g.L.Sink.permits c.read_next.new.link) (g.L.Sink.taken c.args.link.now) (g.L.Sink.taken c.read_next.new.link) _ (g.met.L.Link.reads_keep _ _ c.in-Ok.ensures.apart).0
+          (c.requires.says c.read_next.new.link (take c.in-Ok.len c.read_next.new.buf) c.in-Ok.ensures.same c.in-Ok.ensures.given);
     }
 
 pub returns-in-Ok-take_in-clause-room : goal.returns-in-Ok-take_in-clause-room

@@ -8,8 +8,8 @@ use Rattle.conn_serve.proofs.Faults.{counts_none}
 use Rattle.conn_serve.proofs.Running.{serves_none}
 use Rattle.conn_serve.proofs.serve.attend.Goals as goal
 
-pub attend_by-requires-clause-piece : goal.attend_by-requires-clause-piece
-attend_by-requires-clause-piece g c = omega (arith, c.deref_mut.ensures.len, c.in-Ok.ensures)
+pub attend_by-requires-clause-some : goal.attend_by-requires-clause-some
+attend_by-requires-clause-some g c = omega (arith, c.in-Ok.ensures)
 
 pub returns-in_default : goal.returns-in_default
 returns-in_default g c =

@@ -14,7 +14,7 @@ use Rattle.conn_serve.specs.Hec.{hec}
 use Rattle.conn_serve.specs.Serves.{CarriedBy}
 use Rattle.conn_serve.specs.Runs.{relp_runs}
 use Rattle.conn_serve.specs.Terms.{most_of, terms_of}
-use Rattle.conn_serve.proofs.Beginning.{asks_some, none_carried}
+use Rattle.conn_serve.proofs.Beginning.{none_carried}
 use Rattle.conn_serve.proofs.Batching.{handles_none}
 use Rattle.conn_serve.proofs.RelpSessions as relp_sessions
 use Rattle.conn_serve.proofs.LumberSessions as lumber_sessions
@@ -30,12 +30,11 @@ with_list core token ack_token listed shared same is = subst (λ (l : List Liste
 
 pub run-requires : goal.run-requires
 run-requires g c =
-    let asked : 0 < length c.args.buf.now = omega (arith, c.requires.piece, asks_some c.args.rules.now.group) in
     let session = c.in-Ok.session in
     let new = c.in-Ok.ensures in
     let told = new.fault ∙ sym (ap (λ (w : Window RelpFault). w.fault) new.window) in
     record {
-      some = asked;
+      some = c.requires.some;
       start = relp_sessions.served_none (most_of session.group) c.args.conn session.window session.core session.fault new.reads new.core told;
       idle = rw new.window (record { none = refl; space = omega arith });
       unfed = rw new.window refl;
@@ -48,13 +47,12 @@ run-requires g c =
 
 pub run-requires-in-Ok-new : goal.run-requires-in-Ok-new
 run-requires-in-Ok-new g c =
-    let asked : 0 < length c.args.buf.now = omega (arith, c.requires.piece, asks_some c.args.rules.now.group) in
     let session = c.in-Ok-new.session in
     let new = c.in-Ok-new.ensures in
     let told = new.fault ∙ sym (ap (λ (w : Window LumberFault). w.fault) new.window) in
     let handled = handles_none c.args.conn session.core session.staged.entries.items session.staged.last new.behind (ap (λ (x : Core). x.due) new.core) new.staged in
     record {
-      some = asked;
+      some = c.requires.some;
       start = lumber_sessions.served_none c.args.conn session.window session.core session.staged.entries.items session.staged.last session.fault handled new.reads told;
       idle = rw new.window (record { none = refl; space = omega arith });
       unfed = rw new.window refl;
@@ -66,14 +64,13 @@ run-requires-in-Ok-new g c =
 
 pub run-requires-in-Ok-new-2 : goal.run-requires-in-Ok-new-2
 run-requires-in-Ok-new-2 g c =
-    let asked : 0 < length c.args.buf.now = omega (arith, c.requires.piece, asks_some c.args.rules.now.group) in
     let session = c.in-Ok-new-2.session in
     let new = c.in-Ok-new-2.ensures in
     let core = with_list _ _ _ _ _ c.share.ensures new.core in
     let none = ap (λ (w : Requests). w.reading.waiting) new.window in
     let sound = ap (λ (w : Requests). w.reading.fault) new.window in
     record {
-      some = asked;
+      some = c.requires.some;
       start = rw new.met (hec_sessions.served_none session.core c.args.conn session.window new.reads sound);
       idle = rw (new.window, new.met) (record { none = refl; space = omega arith; found = λ is. cc });
       unfed = rw new.window refl;

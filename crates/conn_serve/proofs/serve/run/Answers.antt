@@ -1,8 +1,9 @@
 use Rattle.edge_io.proofs.Known.{appends_then}
-use Rattle.std.proofs.Common.{◌++◌, ℕ, ◌∙◌, sym, subst, arith, length-take}
+use Rattle.std.proofs.Common.{refl, ◌++◌, ℕ, ◌∙◌, sym, subst, arith, length-take}
 use Rattle.conn_serve.specs.Terms.{Terms}
 use Rattle.conn_serve.specs.Done.{told}
 use Rattle.conn_serve.specs.Endings.{MayEnd}
+use Rattle.conn_serve.proofs.Beginning.{fits_refilled}
 use Rattle.conn_serve.proofs.Running.{progress_turn, serves_as, serves_turn, serves_close, so_far_of}
 use Rattle.conn_serve.proofs.Faults.{counts_from, counts_none, counts_told, quiet_fine}
 use Rattle.conn_serve.specs.Says.{HasCarried}
@@ -12,7 +13,7 @@ use Rattle.conn_serve.proofs.serve.run.Goals as goal
 pub turn-requires-clause-so_far : goal.turn-requires-clause-so_far
 turn-requires-clause-so_far g c =
     let l = c.loop-total in
-    so_far_of (λ k. g.S.Session.served k l.session) _ _ _ _ _ _ l.connection.number c.args.connection.now.number l.invariant.same_number (omega (arith, l.invariant.below, c.min-room.ensures, length-take c.min-room.result c.loop-total.buf)) l.invariant.progress
+    so_far_of (λ k. g.S.Session.served k l.session) _ _ _ _ _ _ l.connection.number c.args.connection.now.number l.invariant.same_number (omega (arith, l.invariant.below, c.min-room.ensures, length-take c.min-room.result c.deref_mut.result.now)) l.invariant.progress
 
 pub turn-requires-clause-may_end : goal.turn-requires-clause-may_end
 turn-requires-clause-may_end g c =
@@ -63,7 +64,7 @@ close-requires-clause-so_far g c =
     let now = c.turn.new in
     let p = progress_turn start _ (told (g.L.Source.given now.link) (g.L.Source.left now.link) (g.L.Sink.taken now.link)) _ _ (λ calls. g.A.Access.ran c.args.access.now calls now.access)
     (λ xs ys p q. g.met.A.Access.ran_more _ _ _ xs ys p q) _ _ _ _ _ l.invariant.same_number (λ k. g.S.Session.served k l.session) (λ k. g.S.Session.served k now.session) c.in-Ok.len l.invariant.progress went.goes in
-    so_far_of (λ k. g.S.Session.served k now.session) _ _ _ _ _ 0 now.connection.number c.args.connection.now.number (went.number ∙ l.invariant.same_number) (omega (arith, l.invariant.below, went.room, c.min-room.ensures, length-take c.min-room.result c.loop-total.buf)) p
+    so_far_of (λ k. g.S.Session.served k now.session) _ _ _ _ _ 0 now.connection.number c.args.connection.now.number (went.number ∙ l.invariant.same_number) (omega (arith, l.invariant.below, went.room, c.min-room.ensures, length-take c.min-room.result c.deref_mut.result.now)) p
 
 pub loop-total-preserved : goal.loop-total-preserved
 loop-total-preserved g c =
@@ -74,6 +75,7 @@ loop-total-preserved g c =
     let now = c.turn.new in
     let number = c.args.connection.now.number in
     record {
+      some = fits_refilled c.args.group _ _ _ _ _ l.buf.ok.0 inv.some c.fit.ensures;
       progress = progress_turn start _ (told (g.L.Source.given now.link) (g.L.Source.left now.link) (g.L.Sink.taken now.link)) _ _ (λ calls. g.A.Access.ran c.args.access.now calls now.access)
           (λ xs ys p q. g.met.A.Access.ran_more _ _ _ xs ys p q) _ _ _ _ _ inv.same_number (λ k. g.S.Session.served k l.session) (λ k. g.S.Session.served k now.session) c.in-Ok.len inv.progress went.goes;
       idle = went.idle;
@@ -82,7 +84,7 @@ loop-total-preserved g c =
       same_number = went.number ∙ inv.same_number;
       may = rw (← inv.same_number) went.may;
       extent = omega (arith, inv.extent, went.extent);
-      below = omega (arith, inv.below, went.room, c.min-room.ensures, length-take c.min-room.result c.loop-total.buf);
+      below = omega (arith, inv.below, went.room, c.min-room.ensures, length-take c.min-room.result c.deref_mut.result.now);
       same = g.L.Object.same_trans _ _ _ inv.same went.same;
       lasts = λ none. went.lasts (inv.lasts none);
       reads = quiet_fine _ _ _ _ _ went.reads ∙ inv.reads;

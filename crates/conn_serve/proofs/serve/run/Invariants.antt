@@ -1,4 +1,4 @@
-use Rattle.std.proofs.Common.{None, ◌-◌, ◌≡◌, ◌≤◌}
+use Rattle.std.proofs.Common.{None, length, ◌<◌, ◌-◌, ◌≡◌, ◌≤◌}
 use Rattle.conn_serve.specs.Done.{told}
 use Rattle.conn_serve.specs.Endings.{MayEnd}
 use Rattle.conn_serve.proofs.Running.{Progress}
@@ -8,6 +8,7 @@ abbrev pub invariant-loop-total : goal.invariant-loop-total
 invariant-loop-total g l =
     let number = l.fn.connection.number in
     record {
+      some : 0 < length l.buf.items;
       progress : Progress (g.S.Session.served number l.session)
           (told (g.L.Source.given l.fn.link) (g.L.Source.left l.fn.link) (g.L.Sink.taken l.fn.link))
           (told (g.L.Source.given l.link) (g.L.Source.left l.link) (g.L.Sink.taken l.link))

@@ -5,7 +5,7 @@ use Rattle.serve_workers.proofs.crew.dismissed.Given as goal
 abbrev pub invariant-loop-worker : goal.invariant-loop-worker
 invariant-loop-worker g l = record {
   doors : l.doors.items ≡ map (λ w. w.door) l.yielded;
-  passes : l.passes.items ≡ map (λ w. w.seated.pass) l.yielded;
+  passes : map g.S.Seat.pass_knows l.passes.items ≡ map (λ w. g.S.Seat.knows w.seat) l.yielded;
   reports : l.reports.items ≡ map (λ w. w.report) l.yielded;
   doors_len : vec_len l.doors ≡ length l.yielded;
   passes_len : vec_len l.passes ≡ length l.yielded;

@@ -3,7 +3,8 @@ use Rattle.std.specs.Prelude.{take, None}
 use Rattle.atomic_table.specs.Table.{Me}
 use Rattle.desk_access.specs.Call.{takes}
 use Rattle.spool_turns.specs.Rules.{View, Handed}
-use Rattle.spool_turns.specs.Passes.{Known, known_of, number_in, pass_in, IsPass, Sound, Calls}
+use Rattle.desk_seats.specs.Passes.{Known, Calls}
+use Rattle.spool_turns.specs.Passes.{known_of, number_in, pass_in, IsPass, Sound}
 use Rattle.spool_turns.specs.Replays.{IsReal}
 use Rattle.spool_turns.specs.Letters.{claimed}
 use Rattle.spool_turns.proofs.Outward.{same_handed, sound_back}

@@ -2,7 +2,8 @@ use Rattle.std.proofs.Common.{◌-◌, ◌∷◌, [], ◌++◌, ◌∙◌, sym, 
 use Rattle.desk_access.specs.Desk.{DeskState}
 use Rattle.desk_access.specs.Legal.{Met}
 use Rattle.spool_turns.specs.Rules.{PassView, made_by, after_call, with_record}
-use Rattle.spool_turns.specs.Passes.{LeadsAbove, pass_of, locked_of, facts_in, caller_in}
+use Rattle.desk_seats.specs.Passes.{LeadsAbove}
+use Rattle.spool_turns.specs.Passes.{pass_of, locked_of, facts_in, caller_in}
 use Rattle.spool_turns.specs.Joining.{entries_out, joint_record}
 use Rattle.spool_turns.proofs.Entering.{met_joined, is_entered}
 use Rattle.spool_turns.proofs.joining.enter.Goals as goal

@@ -5,7 +5,7 @@ ghost use Rattle.desk_access.specs.Division.{divided};
 ghost use Rattle.spool_log.specs.Memory.{run_of};
 ghost use Rattle.spool_desk.specs.Alone.{HoldsNone};
 ghost use Rattle.desk_access.specs.Batch.{Belongs};
-ghost use Rattle.spool_turns.specs.Passes.{fresh};
+ghost use Rattle.desk_seats.specs.Passes.{fresh};
 ghost use Rattle.spool_turns.specs.Named.{IsName};
 
 use crate::turns::taking::take_many;

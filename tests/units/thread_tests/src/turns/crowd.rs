@@ -2,7 +2,7 @@
 ghost use Rattle.std.specs.Prelude.{◌≡◌, ℕ, [], true};
 ghost use Rattle.desk_access.specs.declared.division.Division.TheVariants.{Workers};
 ghost use Rattle.desk_access.specs.Batch.{Belongs};
-ghost use Rattle.spool_turns.specs.Passes.{fresh};
+ghost use Rattle.desk_seats.specs.Passes.{fresh};
 ghost use Rattle.spool_turns.specs.Named.{IsName};
 
 use crate::desks::{formatted, named, to_share};

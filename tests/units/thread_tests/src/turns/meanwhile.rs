@@ -3,7 +3,7 @@ ghost use Rattle.std.specs.Prelude.{◌≡◌, ◌^◌, ◌<◌, ℕ, [], length
 ghost use Rattle.event_form.specs.Entry.{IsEntry};
 ghost use Rattle.desk_access.specs.declared.division.Division.TheVariants.{Workers};
 ghost use Rattle.desk_access.specs.Batch.{AreNext, AreOfUnit, Belongs};
-ghost use Rattle.spool_turns.specs.Passes.{fresh};
+ghost use Rattle.desk_seats.specs.Passes.{fresh};
 ghost use Rattle.spool_turns.specs.Named.{IsName};
 
 use crate::desks::{formatted, named, to_share};

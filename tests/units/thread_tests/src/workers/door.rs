@@ -1,5 +1,5 @@
 //! The door of a worker.
-use edge_io::{AcceptFault, Door, MemDoor, MemLink, Proto};
+use edge_io::{AcceptFault, Door, MemDoor, MemLink, Proto, Shortage};
 use std::alloc::AllocError;
 
 /// A door in memory. A starved one lets a link go, and then reports that it found no memory. To contracts it doesn't tell its links.
@@ -29,8 +29,9 @@ impl Door for TestDoor {
         proto: Proto,
         conn: u64,
         status: u8,
+        shortage: Option<Shortage>,
     ) -> Result<(), AllocError> {
-        self.door.give_back(link, proto, conn, status)?;
+        self.door.give_back(link, proto, conn, status, shortage)?;
         if self.starved {
             return Err(AllocError);
         }

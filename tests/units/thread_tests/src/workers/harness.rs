@@ -1,5 +1,5 @@
 //! Workers over a spool in memory.
-ghost use Rattle.std.specs.Prelude.{◌≡◌, ◌^◌, ◌≤◌, vec_len};
+ghost use Rattle.std.specs.Prelude.{◌≡◌, ◌+◌, ◌^◌, ◌≤◌, vec_len};
 ghost use Rattle.desk_access.specs.declared.division.Division.TheVariants.{Workers};
 ghost use Rattle.desk_access.specs.Division.{callers_of, each_of};
 ghost use Rattle.spool_turns.specs.Named.{IsName};
@@ -16,7 +16,7 @@ use std::process::Abort;
 use std::sync::Wait;
 use std::thread::Threads;
 
-// Serves at the doors, over the desk under its name. With `group` takes of several workers may be stored as one group.
+// Serves at the doors, over the desk under its name, which has one pass more. With `group` takes of several workers may be stored as one group.
 fn serve_named<J: Naming + Send + Sync, R: Abort + Threads + Wait + Sync>(
     rt: &R,
     alloc: Global,
@@ -25,14 +25,14 @@ fn serve_named<J: Naming + Send + Sync, R: Abort + Threads + Wait + Sync>(
     posts: Vec<Post<TestDoor>>,
     talks: u32,
 ) -> Served<TestDoor, MemDisk>
-    requires seats { vec_len posts ≡ J.seats }
+    requires seats { vec_len posts + 1 ≡ J.seats }
     requires divided { J.run.division ≡ Workers }
     requires few { vec_len posts ≤ callers_of J.run.division }
     requires talks { talks ≤ each_of J.run.division }
     requires group { group ≡ J.began.grouped }
     requires name { IsName J.table J.run J.start J.began unnamed }
 {
-    let seats = posts.len() as u32;
+    let seats = posts.len() as u32 + 1;
     let opened = named::<MemDisk, J, R>(rt, alloc, unnamed, seats, group);
     let served = serve_alone(rt, alloc, opened, posts, talks).ok();
     served.expect(rt, "memory")

@@ -1,5 +1,5 @@
 use Rattle.std.proofs.Common.{◌≡◌, Global, map, string_bytes}
-use Rattle.cli_parts.proofs.Options.{first_and_rest, next_quiet, next_idle, next_idle_with, next_other, wrong_idle, wrong_idle_with}
+use Rattle.cli_parts.proofs.Options.{first_and_rest, next_quiet, next_idle, next_idle_with, next_memory, next_memory_with, next_other, wrong_idle, wrong_idle_with, wrong_memory, wrong_memory_with}
 use Rattle.cli_parts.proofs.run_options.Taken.read.Goals as goal
 
 -- `--quiet`
@@ -31,6 +31,32 @@ returns-in-Err-take_idle-clause-wrong c = λ wrong is.
     let whole = first_and_rest (string_bytes {Z = Global}) c.args.more.now c.value-item.result c.as_str.result.now c.in-len1-up.len_at_least c.value-item.is c.as_str.ensures.value in
     rw (← same) (wrong_idle c.args.name.now c.args.word.now c.as_str.result.now (map (string_bytes {Z = Global}) c.args.more.now) _
     c.args.self.now.options c.in-Err-take_idle.wrong whole c.in-Idle.ensures c.in-Err-take_idle.ensures.wrong)
+
+-- `--memory=BYTES`
+
+pub returns-in-Ok-take_memory-clause-read : goal.returns-in-Ok-take_memory-clause-read
+returns-in-Ok-take_memory-clause-read c =
+    rw c.in-Ok-take_memory.ensures.words (next_memory_with c.args.name.now c.args.word.now c.in-MemoryWith.value.now _ _ _ _ c.in-MemoryWith.ensures c.in-Ok-take_memory.ensures.memory)
+
+pub returns-in-Err-take_memory-clause-wrong : goal.returns-in-Err-take_memory-clause-wrong
+returns-in-Err-take_memory-clause-wrong c = λ wrong is.
+    let same : c.in-Err-take_memory.wrong ≡ wrong = cc in
+    rw (← same) (wrong_memory_with c.args.name.now c.args.word.now c.in-MemoryWith.value.now (map (string_bytes {Z = Global}) c.args.more.now)
+    c.args.self.now.options c.in-Err-take_memory.wrong c.in-MemoryWith.ensures c.in-Err-take_memory.ensures.wrong)
+
+-- `--memory BYTES`
+
+pub returns-in-Ok-take_memory-2-clause-read : goal.returns-in-Ok-take_memory-2-clause-read
+returns-in-Ok-take_memory-2-clause-read c =
+    let whole = first_and_rest (string_bytes {Z = Global}) c.args.more.now c.value-item-in-Memory.result c.as_str-in-Memory.result.now c.in-len1-up-more.len_at_least c.value-item-in-Memory.is c.as_str-in-Memory.ensures.value in
+    rw c.in-Ok-take_memory-2.ensures.words (next_memory c.args.name.now c.args.word.now c.as_str-in-Memory.result.now _ _ _ _ _ whole c.in-Memory.ensures c.in-Ok-take_memory-2.ensures.memory)
+
+pub returns-in-Err-take_memory-2-clause-wrong : goal.returns-in-Err-take_memory-2-clause-wrong
+returns-in-Err-take_memory-2-clause-wrong c = λ wrong is.
+    let same : c.in-Err-take_memory-2.wrong ≡ wrong = cc in
+    let whole = first_and_rest (string_bytes {Z = Global}) c.args.more.now c.value-item-in-Memory.result c.as_str-in-Memory.result.now c.in-len1-up-more.len_at_least c.value-item-in-Memory.is c.as_str-in-Memory.ensures.value in
+    rw (← same) (wrong_memory c.args.name.now c.args.word.now c.as_str-in-Memory.result.now (map (string_bytes {Z = Global}) c.args.more.now) _
+    c.args.self.now.options c.in-Err-take_memory-2.wrong whole c.in-Memory.ensures c.in-Err-take_memory-2.ensures.wrong)
 
 -- any other word
 pub returns-in_ok-keep-in-Other-clause-read : goal.returns-in_ok-keep-in-Other-clause-read

@@ -6,7 +6,8 @@ use Rattle.spool_log.specs.State.{view}
 use Rattle.desk_access.specs.Call.{Record, own_of}
 use Rattle.spool_desk.specs.Alone.{alone_at}
 use Rattle.desk_access.specs.Legal.{Met}
-use Rattle.spool_turns.specs.Passes.{Known, Stands, locked_of, facts_in}
+use Rattle.desk_seats.specs.Passes.{Known, Stands}
+use Rattle.spool_turns.specs.Passes.{locked_of, facts_in}
 use Rattle.spool_turns.specs.Replays.{Replays, desk_at}
 use Rattle.spool_turns.specs.Stands.{with_ids}
 use Rattle.spool_turns.proofs.Led.{replays_told}

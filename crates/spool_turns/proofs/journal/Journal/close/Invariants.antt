@@ -1,5 +1,6 @@
 use Rattle.std.proofs.Common.{◌≡◌, List, ◌++◌, All}
-use Rattle.spool_turns.specs.Passes.{Known, IsLocked, facts_in, Stands}
+use Rattle.desk_seats.specs.Passes.{Known, Stands}
+use Rattle.spool_turns.specs.Passes.{IsLocked, facts_in}
 use Rattle.spool_turns.proofs.journal.Journal.close.Given as goal
 
 abbrev pub invariant-loop-pass : goal.invariant-loop-pass

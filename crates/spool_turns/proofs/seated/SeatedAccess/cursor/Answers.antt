@@ -1,5 +1,5 @@
 use Rattle.std.proofs.Common.{arith}
-use Rattle.spool_turns.specs.Ran.{none_real, ran_loaded}
+use Rattle.desk_seats.specs.Ran.{none_real, ran_loaded}
 use Rattle.spool_turns.proofs.seated.SeatedAccess.cursor.Goals as goal
 
 pub returns-clause-ran : goal.returns-clause-ran

@@ -1,4 +1,4 @@
-use Rattle.spool_turns.specs.Ran.{ran_one}
+use Rattle.desk_seats.specs.Ran.{ran_one}
 use Rattle.spool_turns.proofs.seated.SeatedAccess.forget.Goals as goal
 
 pub returns : goal.returns

@@ -1,4 +1,4 @@
-use Rattle.spool_turns.specs.Ran.{ran_one}
+use Rattle.desk_seats.specs.Ran.{ran_one}
 use Rattle.spool_turns.proofs.seated.SeatedAccess.take.Goals as goal
 
 pub returns-clause-ran : goal.returns-clause-ran

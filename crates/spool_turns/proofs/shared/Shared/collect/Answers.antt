@@ -2,7 +2,8 @@ use Rattle.std.proofs.Common.{◌∙◌, List, sym, ap, subst, arith}
 use Rattle.std.proofs.lemmas.List.{take_all}
 use Rattle.event_form.specs.declared.event.Entry.{Entry}
 use Rattle.desk_access.specs.Call.{takes}
-use Rattle.spool_turns.specs.Passes.{Known, known_of, pass_in, Calls}
+use Rattle.desk_seats.specs.Passes.{Known, Calls}
+use Rattle.spool_turns.specs.Passes.{known_of, pass_in}
 use Rattle.spool_turns.specs.Sent.{Sent}
 use Rattle.spool_turns.proofs.shared.Shared.collect.Goals as goal
 

@@ -4,7 +4,8 @@ use Rattle.event_form.specs.declared.event.Entry.{Entry}
 use Rattle.desk_access.specs.Call.{takes}
 use Rattle.desk_access.specs.Batch.{MayTake, MayUse}
 use Rattle.desk_access.specs.Legal.{IsNext, IsUnused}
-use Rattle.spool_turns.specs.Passes.{Known, known_of, pass_in, Calls}
+use Rattle.desk_seats.specs.Passes.{Known, Calls}
+use Rattle.spool_turns.specs.Passes.{known_of, pass_in}
 use Rattle.spool_turns.proofs.Outward.{is_claim, number_out, claimed_is, entries_out, front_out}
 use Rattle.spool_turns.proofs.shared.Shared.exchange.Goals as goal
 

@@ -1,7 +1,8 @@
 use Rattle.std.proofs.Common.{◌∙◌, sym, subst}
 use Rattle.desk_access.specs.Batch.{MayTake, MayUse}
 use Rattle.desk_access.specs.Legal.{IsNext, IsUnused}
-use Rattle.spool_turns.specs.Passes.{Known, pass_in}
+use Rattle.desk_seats.specs.Passes.{Known}
+use Rattle.spool_turns.specs.Passes.{pass_in}
 use Rattle.spool_turns.proofs.Outward.{is_claim, number_out, claimed_is, entries_out, front_out}
 use Rattle.spool_turns.proofs.shared.Shared.hand_in.Goals as goal
 

@@ -1,6 +1,7 @@
 use Rattle.std.proofs.Common.{◌≡◌, ◌+◌, sym, ◌∙◌, subst, arith}
 use Rattle.desk_access.specs.Call.{confirms}
-use Rattle.spool_turns.specs.Passes.{Known, Calls, known_of, pass_in}
+use Rattle.desk_seats.specs.Passes.{Known, Calls}
+use Rattle.spool_turns.specs.Passes.{known_of, pass_in}
 use Rattle.spool_turns.proofs.turn.Turn.confirm.Goals as goal
 
 pub confirm-answer-requires-clause-number : goal.confirm-answer-requires-clause-number

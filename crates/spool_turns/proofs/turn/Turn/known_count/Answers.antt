@@ -1,6 +1,7 @@
 use Rattle.std.proofs.Common.{◌∙◌, subst}
 use Rattle.desk_access.specs.Call.{counts}
-use Rattle.spool_turns.specs.Passes.{Known, Calls, known_of, pass_in}
+use Rattle.desk_seats.specs.Passes.{Known, Calls}
+use Rattle.spool_turns.specs.Passes.{known_of, pass_in}
 use Rattle.spool_turns.proofs.turn.Turn.known_count.Goals as goal
 
 pub enter-requires-clause-seats : goal.enter-requires-clause-seats

@@ -1,6 +1,7 @@
 use Rattle.std.proofs.Common.{◌≡◌, ◌≤◌, sym, ap, ◌∙◌, subst}
 use Rattle.std.specs.Prelude.{None}
-use Rattle.spool_turns.specs.Passes.{Known, IsPass, Sound, known_of, pass_in}
+use Rattle.desk_seats.specs.Passes.{Known}
+use Rattle.spool_turns.specs.Passes.{IsPass, Sound, known_of, pass_in}
 use Rattle.spool_turns.proofs.turn.Turn.look.Goals as goal
 
 pub look-requires-clause-seats : goal.look-requires-clause-seats

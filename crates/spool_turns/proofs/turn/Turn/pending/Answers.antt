@@ -1,6 +1,7 @@
 use Rattle.std.proofs.Common.{◌∙◌, subst, arith}
 use Rattle.desk_access.specs.Call.{pends, listed}
-use Rattle.spool_turns.specs.Passes.{Known, Calls, known_of, pass_in}
+use Rattle.desk_seats.specs.Passes.{Known, Calls}
+use Rattle.spool_turns.specs.Passes.{known_of, pass_in}
 use Rattle.spool_turns.proofs.turn.Turn.pending.Goals as goal
 
 pub pending-answer-requires : goal.pending-answer-requires

@@ -2,7 +2,8 @@ use Rattle.std.proofs.Common.{sym, ◌∙◌, subst}
 use Rattle.desk_access.specs.Batch.{MayTake, MayUse}
 use Rattle.desk_access.specs.Legal.{IsNext, IsUnused}
 use Rattle.desk_access.specs.Call.{takes}
-use Rattle.spool_turns.specs.Passes.{Known, Calls, known_of, pass_in}
+use Rattle.desk_seats.specs.Passes.{Known, Calls}
+use Rattle.spool_turns.specs.Passes.{known_of, pass_in}
 use Rattle.spool_turns.proofs.turn.Turn.take.Goals as goal
 
 pub enter-requires-clause-seats : goal.enter-requires-clause-seats

@@ -5,7 +5,8 @@ use Rattle.desk_access.specs.Batch.{MayTake, MayUse}
 use Rattle.desk_access.specs.Legal.{IsNext, IsUnused}
 use Rattle.spool_turns.proofs.Fronts.{front_may}
 use Rattle.desk_access.specs.Call.{takes}
-use Rattle.spool_turns.specs.Passes.{Known, Calls, known_of, pass_in}
+use Rattle.desk_seats.specs.Passes.{Known, Calls}
+use Rattle.spool_turns.specs.Passes.{known_of, pass_in}
 use Rattle.spool_turns.proofs.turn.Turn.take_front.Goals as goal
 
 pub enter-requires-clause-seats : goal.enter-requires-clause-seats

@@ -2,7 +2,8 @@ use Rattle.std.proofs.Common.{rules, ◌≡◌, ◌++◌, ◌∷◌, [], ◌+◌
 use Rattle.spool_log.specs.State.{view}
 use Rattle.spool_desk.specs.Alone.{alone_view, alone_at}
 use Rattle.spool_turns.specs.Rules.{facts, one_pass_more, new_pass}
-use Rattle.spool_turns.specs.Passes.{known, known_of, pass_in, facts_in, locked_of, pass_of, fresh}
+use Rattle.desk_seats.specs.Passes.{known, fresh}
+use Rattle.spool_turns.specs.Passes.{known_of, pass_in, facts_in, locked_of, pass_of}
 use Rattle.spool_turns.proofs.Kept.{kept_first}
 use Rattle.spool_turns.proofs.Levels.{level_beside}
 use Rattle.spool_turns.proofs.NewPass.{new_pass_is}

@@ -1,7 +1,8 @@
 use Rattle.std.proofs.Common.{◌≡◌, ◌≤◌, [], vec_len}
 use Rattle.std.specs.Vec.{vec_capacity}
 use Rattle.spool_turns.specs.Rules.{facts}
-use Rattle.spool_turns.specs.Passes.{locked_of, fresh}
+use Rattle.desk_seats.specs.Passes.{fresh}
+use Rattle.spool_turns.specs.Passes.{locked_of}
 use Rattle.spool_turns.proofs.unnamed.Unnamed.named.Given as goal
 
 abbrev pub invariant-loop-i : goal.invariant-loop-i
