@@ -34,6 +34,10 @@ class Attack:
     def lasts(self):
         return time.monotonic() < self.end
 
+    def rest(self):
+        """Waits until the attack ends."""
+        time.sleep(max(0, self.end - time.monotonic()))
+
     def count(self, what, number=1):
         with self.lock:
             self.counts[what] = self.counts.get(what, 0) + number
@@ -70,7 +74,7 @@ class Attack:
                 self.count("held")
             except OSError as error:
                 self.count(type(error).__name__)
-        time.sleep(max(0, self.end - time.monotonic()))
+        self.rest()
 
 
 # ---- slow and silent ones
@@ -108,7 +112,7 @@ def crowd(attack):
         link.connect_ex(("127.0.0.1", attack.ports[number % 3]))
         attack.kept.append(link)
     attack.count("connecting", len(attack.kept))
-    time.sleep(max(0, attack.end - time.monotonic()))
+    attack.rest()
 
 
 def unread(attack):
@@ -213,7 +217,7 @@ def staged(attack):
                 attack.count("held")
             except OSError as error:
                 attack.count(type(error).__name__)
-    time.sleep(max(0, attack.end - time.monotonic()))
+    attack.rest()
 
 
 def costly(attack):

@@ -26,7 +26,16 @@ pub struct Served<P: Door, D: Disk> {
     pub reports: Vec<WorkerReport>,
 }
 
-// Hires workers beside a seat, and has them work. That seat's pass comes back after theirs.
+// What workers leave once all have given up their seats: the doors, the passes in their order, and a report of each. It names no seat, so
+// that the desk isn't borrowed any more.
+struct Left<P, Q> {
+    doors: Vec<P>,
+    passes: Vec<Q>,
+    reports: Vec<WorkerReport>,
+}
+
+// Hires workers beside a seat, and has them work. That seat's pass comes back after theirs. The error is the passes as they were given, and
+// that of the seat after them.
 fn crew_of<P: Door + Drop + Send, S: Seat + Send, R: Threads + Sync>(
     rt: &R,
     alloc: Global,
@@ -34,7 +43,7 @@ fn crew_of<P: Door + Drop + Send, S: Seat + Send, R: Threads + Sync>(
     posts: Vec<Post<P>>,
     passes: Vec<S::Pass>,
     talks: u32,
-) -> Result<Crew<P, S>, NoCrew<P, S>>
+) -> Result<Left<P, S::Pass>, Vec<S::Pass>>
 where
     P::L: Send,
     S::Pass: Send,
@@ -45,20 +54,28 @@ where
     requires says { (i : ℕ) (post : _) → slice_get posts.items i ≡ Some post
         → MayAnswer S.is_real S.start S.of_run i (P.permits post.door) post.rules }
 
-    ensures each { IfOk result (λ crew. (workers : List Known) × (map S.pass_knows crew.passes.items ≡ workers ++ S.knows seat ∷ [])
+    ensures each { IfOk result (λ left. (workers : List Known) × (map S.pass_knows left.passes.items ≡ workers ++ S.knows seat ∷ [])
         × HaveWorked S.start S.of_run talks
         (roster_as (map (λ (post : _). post.rules) posts.items) (map (λ (post : _). P.told post.door) posts.items) (map S.pass_knows passes.items))
-        (returned_as (map (λ (door : _). P.told door) crew.doors.items) workers crew.reports.items)) }
+        (returned_as (map (λ (door : _). P.told door) left.doors.items) workers left.reports.items)) }
 {
     match hire(alloc, &seat, posts, passes) {
         Ok(hired) => {
-            let mut crew = hired.work(rt, alloc, talks);
-            crew.passes.push_reserved(seat.into_pass());
-            Ok(crew)
-        }
-        Err(NoCrew { posts, mut passes }) => {
+            let Crew {
+                doors,
+                mut passes,
+                reports,
+            } = hired.work(rt, alloc, talks);
             passes.push_reserved(seat.into_pass());
-            Err(NoCrew { posts, passes })
+            Ok(Left {
+                doors,
+                passes,
+                reports,
+            })
+        }
+        Err(NoCrew { mut passes, .. }) => {
+            passes.push_reserved(seat.into_pass());
+            Err(passes)
         }
     }
 }
@@ -102,18 +119,17 @@ where
         rt,
     };
     match crew_of(rt, alloc, seat, posts, passes, talks) {
-        Ok(crew) => {
-            let Crew {
+        Ok(
+            Left {
                 doors,
                 passes,
                 reports,
-            } = crew;
-            Ok(Served {
-                desk: shared.close(passes),
-                doors,
-                reports,
-            })
-        }
-        Err(none) => Err(shared.close(none.passes)),
+            },
+        ) => Ok(Served {
+            desk: shared.close(passes),
+            doors,
+            reports,
+        }),
+        Err(passes) => Err(shared.close(passes)),
     }
 }
