@@ -414,6 +414,8 @@ def journal(check, program, library, folder):
             link.sendall(OPEN)
             link.recv(1)
             os.rename(server.spool, f"{server.spool}.away")
+            # (it is looked for once in a tenth of a second)
+            time.sleep(0.2)
             link.sendall(b"2 syslog 1 a\n")
             try:
                 while link.recv(4096):
