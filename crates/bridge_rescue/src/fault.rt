@@ -3,9 +3,11 @@ ghost use Rattle.std.specs.Prelude.{◌≡◌, ◌↔◌, IsTrue};
 ghost use Rattle.bridge_rescue.specs.Faults.{HasUnread, IsVerdict};
 
 use notes::Note;
+use std::fmt;
+use thiserror::Error;
 
 /// What is wrong with a slot.
-#[derive(Clone, Copy, PartialEq, Eq)]
+#[derive(Clone, Copy, PartialEq, Eq, Debug)]
 pub enum Why {
     /// The device ends before the slot does.
     Cut,
@@ -18,8 +20,8 @@ pub enum Why {
     Unread,
 }
 
-/// A slot that isn't sound, of which nothing is printed.
-#[derive(Clone, Copy)]
+/// A slot that isn't sound, of which no entry is printed.
+#[derive(Clone, Copy, Debug, Drop, Error)]
 pub struct SlotFault {
     /// Its place among the slots, from 0.
     pub place: u32,
@@ -28,6 +30,19 @@ pub struct SlotFault {
     pub at: u64,
     /// What is wrong.
     pub why: Why,
+}
+
+/// The line of a rescue that says it, without `bridge: ` before it.
+impl fmt::Display for SlotFault {
+    fn fmt<W: fmt::Write>(&self, f: &mut fmt::Formatter<W>) -> fmt::Result {
+        let SlotFault { place, at, why } = *self;
+        match why {
+            Why::Cut => write!(f, "slot {place}: FILE ends at byte {at}"),
+            Why::Broken => write!(f, "slot {place}: no whole group at byte {at}"),
+            Why::TooHigh => write!(f, "slot {place}: numbers above 2^63 at byte {at}"),
+            Why::Unread => write!(f, "slot {place}: a read failed, from byte {at} on"),
+        }
+    }
 }
 
 // Whether a read of it failed.

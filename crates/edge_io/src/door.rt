@@ -8,10 +8,12 @@ ghost use Rattle.edge_io.specs.Door.{DoorState, TakesLink, SameLinks, SameTalks,
 
 use crate::{Link, Proto, Shortage};
 use std::alloc::AllocError;
+use thiserror::Error;
 
 /// An accept failed. The door's own count of faults says how often that was; an accept that doesn't
 /// answer this failed at nothing.
-#[derive(Clone, Copy, Debug, PartialEq, Eq)]
+#[derive(Clone, Copy, PartialEq, Eq, Debug, Drop, Error)]
+#[error("net fault")]
 pub struct AcceptFault;
 
 /// An object that accepts links, and is given each one back when it was served. It may tell which links
