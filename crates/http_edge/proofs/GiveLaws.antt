@@ -1,10 +1,12 @@
 -- What a window counts, and what it holds once an item is given.
 use Rattle.std.proofs.Common.{◌≡◌, ℕ, ◌+◌, ◌-◌, ◌<◌, ◌≤◌, List, [], ◌∷◌, ◌++◌, length, take, drop, refl, sym, ap, ◌∙◌, subst, arith, length-drop, length-take-le, append_assoc}
 use Rattle.std.specs.Prelude.{Option, Some, None, slice_range}
+use Rattle.std.specs.Global.{Vec}
 use Rattle.std.specs.Vec.{vec_capacity}
 use Rattle.std.proofs.lemmas.List.{drop-drop, drop-take, take_at}
 use Rattle.std.proofs.Math.Seq.{take-add}
 use Rattle.http_edge.specs.declared.fault.HttpFault.{HttpFault}
+use Rattle.http_edge.specs.declared.limits.TheConstants.{ROOM}
 use Rattle.http_edge.specs.declared.head.Head.{Head}
 use Rattle.http_edge.specs.declared.held.Held.{Held}
 use Rattle.http_edge.specs.declared.part.HeadPart.{HeadPart}
@@ -267,3 +269,33 @@ packed_window old new f p =
       heads = old.heads + old.size;
       beside = old.beside;
     })
+
+-- what is held, over other memory that has the same bytes
+pub refilled : (h : Held) (bytes joined : Vec ℕ) → Fills h → bytes.items ≡ h.bytes.items → ROOM ≤ vec_capacity bytes → Fills (record h { bytes = bytes; joined = joined })
+refilled h bytes joined f is enough = record {
+  space = enough;
+  unread_space = f.unread_space;
+  order = f.order;
+  inside = rw is f.inside;
+  bodies = f.bodies;
+  heads_are = f.heads_are;
+  are_heads = f.are_heads;
+  begun_is = f.begun_is;
+  first = f.first;
+  alone = f.alone;
+  bound = rw is f.bound;
+  fits = rw is f.fits;
+  short = f.short;
+  room = f.room;
+  head = f.head;
+  none = rw is f.none;
+  broken = f.broken;
+}
+
+-- contracts see the same
+pub refilled_window : (h : Held) (bytes joined : Vec ℕ) → bytes.items ≡ h.bytes.items → window_of (record h { bytes = bytes; joined = joined }) ≡ window_of h
+refilled_window h bytes joined is = ap (λ (b : List ℕ). record {
+  reading = record { waiting = items_in h.queue.items (slice_range b h.from h.whole); at = h.at; begun = h.begun; stage = h.stage; body = drop h.whole b; read = h.read; unread = h.unread.items; fault = h.fault };
+  heads = h.heads + h.size;
+  beside = h.beside;
+}) is

@@ -1,6 +1,8 @@
 //! The window over a stream that comes in pieces.
 ghost use Rattle.std.specs.Prelude.{◌≡◌, ℕ, ◌+◌, ◌≤◌, ◌^◌, List, [], length, slice_range, ◌↔◌, IsNone, IsSome, IfOk, IfSome, Some, None, Err};
 ghost use Rattle.std.specs.Borrow.{sem};
+ghost use Rattle.std.specs.Vec.{vec_capacity};
+ghost use Rattle.http_edge.specs.declared.limits.TheConstants.{ROOM};
 ghost use Rattle.event_form.specs.declared.feed_fault.FeedFault.TheVariants.{Fault};
 ghost use Rattle.http_edge.specs.declared.fault.HttpFault.{HttpFault};
 ghost use Rattle.http_edge.specs.Reading.{come};
@@ -10,7 +12,7 @@ use crate::field::Fields;
 use crate::head::Head;
 use crate::held::{Given, Held};
 use crate::item::ItemRef;
-use crate::limits::{MOST_HEAD, ROOM};
+use crate::limits::{FEW, MOST_HEAD, ROOM};
 use crate::part::HeadPart;
 use crate::past_body::PastBody;
 use crate::stage::Stage;
@@ -50,6 +52,21 @@ fn part(bytes: &Vec<u8>, from: usize, to: usize) -> &[u8]
     ensures { result.now ≡ slice_range bytes.now.items from to }
 {
     &bytes[from..to]
+}
+
+// Memory for the bodies of a window, which begins with these bytes. None: there is none.
+fn copied(alloc: Global, held: &[u8]) -> Option<Vec<u8>>
+    requires { length held.now ≤ ROOM }
+    ensures items { IfSome result (λ bytes. bytes.items ≡ held.now) }
+    ensures capacity { IfSome result (λ bytes. ROOM ≤ vec_capacity bytes) }
+{
+    let Ok(mut bytes) = Vec::with_capacity(alloc, ROOM) else {
+        return None;
+    };
+    if bytes.extend_from_slice(held).is_err() {
+        return None;
+    }
+    Some(bytes)
 }
 
 impl HttpWindow {
@@ -114,12 +131,31 @@ impl HttpWindow {
         Ok(taken)
     }
 
+    // Gives back the memory that bodies took which were given, where little is held; where there is none for another window all stays as
+    // it is. Nothing else changes.
+    fn give_back(&mut self)
+        ensures { self.new ≡ self.old }
+    {
+        let held = self.held.bytes.len() - self.held.from;
+        if held > FEW || self.held.bytes.len() <= FEW {
+            return;
+        }
+        self.held.pack();
+        if let Some(bytes) = copied(self.alloc, &self.held.bytes) {
+            self.held.bytes = bytes;
+            self.held.joined = Vec::new(self.alloc);
+        }
+    }
+
     /// The next item; `None` exactly where none waits, and then there is room. Its own room is free from the
-    /// next call on. It takes no memory.
+    /// next call on. It takes no memory, but where none waits and little is held after much: then what took that is given back.
     pub fn next(&mut self) -> Option<ItemRef<'_>>
         ensures* after { sem 𝓛 (Leaves self.entry result) }
     {
-        let given = self.held.give()?;
+        let Some(given) = self.held.give() else {
+            self.give_back();
+            return None;
+        };
         let held = &self.held;
         match given {
             Given::Continue => Some(ItemRef::Continue),

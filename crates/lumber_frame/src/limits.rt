@@ -7,3 +7,6 @@ pub const MOST_FRAMES: u32 = 65_536;
 /// How many bytes a `LumberWindow` holds, whole frames included. The longest frame has 131,082: a text
 /// of 131,072 bytes, and ten before it.
 pub const ROOM: usize = 131_140;
+
+/// How many bytes a window holds at most of which it keeps the memory of no more: what a short read brings.
+pub const FEW: usize = 8_192;

@@ -2,13 +2,14 @@
 ghost use Rattle.std.specs.Prelude.{◌≡◌, ℕ, ◌+◌, ◌-◌, ◌≤◌, ◌<◌, ◌^◌, List, [], ◌++◌, drop, take, length, ◌↔◌, IsNone, IfOk, IfSome, Some, None, Err};
 ghost use Rattle.std.specs.Vec.{vec_len, vec_capacity};
 ghost use Rattle.std.specs.Borrow.{sem};
+ghost use Rattle.lumber_frame.specs.declared.limits.TheConstants.{ROOM};
 ghost use Rattle.lumber_frame.specs.declared.fault.LumberFault.{LumberFault};
 ghost use Rattle.lumber_frame.specs.declared.side.Side.TheVariants.{Receiver};
 
 use crate::fault::LumberFault;
 use crate::field::{Phase, START};
 use crate::lent::{LumberRef, lend};
-use crate::limits::ROOM;
+use crate::limits::{FEW, ROOM};
 use crate::run::{find, judge};
 use crate::side::Side;
 use std::alloc::{AllocError, Global};
@@ -30,6 +31,21 @@ fn shift_in(bytes: &mut Vec<u8>, from: usize, piece: &[u8], kept: usize)
         unreachable!()
     };
     bytes.truncate(kept);
+}
+
+// Memory for a window, which begins with these bytes. None: there is none.
+fn copied(alloc: Global, held: &[u8]) -> Option<Vec<u8>>
+    requires { length held.now ≤ ROOM }
+    ensures items { IfSome result (λ bytes. bytes.items ≡ held.now) }
+    ensures capacity { IfSome result (λ bytes. ROOM ≤ vec_capacity bytes) }
+{
+    let Ok(mut bytes) = Vec::with_capacity(alloc, ROOM) else {
+        return None;
+    };
+    if bytes.extend_from_slice(held).is_err() {
+        return None;
+    }
+    Some(bytes)
 }
 
 /// A window over what a writer of Lumberjack sends, in pieces, cut anywhere. It holds at most 131,140
@@ -127,13 +143,33 @@ impl LumberWindow {
         Ok(taken)
     }
 
+    // Gives back the memory that much took which was given, where little is held; where there is none for another window all stays as it
+    // is. Nothing else changes.
+    fn give_back(&mut self)
+        ensures { self.new ≡ self.old }
+    {
+        let held = self.bytes.len() - self.from;
+        if held > FEW || self.bytes.len() <= FEW {
+            return;
+        }
+        let alloc = *self.bytes.allocator();
+        if let Some(bytes) = copied(alloc, &self.bytes[self.from..]) {
+            self.bytes = bytes;
+            self.whole -= self.from;
+            self.from = 0;
+        }
+    }
+
     /// The next whole frame; `None` exactly where none waits. Its room is free from the next call on. It
-    /// takes no memory.
+    /// takes no memory, but where none waits and little is held after much: then what took that is given back.
     pub fn next(&mut self) -> Option<LumberRef<'_>>
         ensures* after { sem 𝓛 (Leaves self.entry result) }
         ensures limits { IfSome result (λ f. IsFrameFor Receiver (frame_lent f)) }
     {
-        let (whole, n) = find(Side::Receiver, &self.bytes[self.from..self.whole])?;
+        let Some((whole, n)) = find(Side::Receiver, &self.bytes[self.from..self.whole]) else {
+            self.give_back();
+            return None;
+        };
         let begin = self.from;
         self.from = begin + n;
         Some(lend(whole, &self.bytes[begin..begin + n]))

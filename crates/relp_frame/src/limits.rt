@@ -11,3 +11,6 @@ pub const MOST_DATA: usize = 131_072;
 
 /// How many bytes a window holds: the longest frame has 131,126.
 pub const ROOM: usize = 131_136;
+
+/// How many bytes a window holds at most of which it keeps the memory of no more: what a short read brings.
+pub const FEW: usize = 8_192;
