@@ -12,7 +12,7 @@ use crate::field::Fields;
 use crate::head::Head;
 use crate::held::{Given, Held};
 use crate::item::ItemRef;
-use crate::limits::{FEW, MOST_HEAD, ROOM};
+use crate::limits::{FEW, MOST_HEAD, MOST_KEPT, ROOM};
 use crate::part::HeadPart;
 use crate::past_body::PastBody;
 use crate::stage::Stage;
@@ -20,6 +20,11 @@ use event_form::{Blob, FeedFault};
 use std::alloc::{AllocError, Global};
 use std::collections::VecDeque;
 use std::marker::Model;
+
+// For how many items that wait memory is kept, and how many bytes of it each has at least.
+const MOST_QUEUED: usize = 64;
+
+const EACH_QUEUED: usize = 64;
 
 /// A window over a stream of requests that comes in pieces, cut anywhere. It holds at most 1,064,960 bytes:
 /// those of whole requests that wait, and of an unfinished one; the first request's parsed head of at most
@@ -31,6 +36,8 @@ use std::marker::Model;
 pub struct HttpWindow {
     alloc: Global,
     held: Held,
+    // How many bytes its memory had at most since it was taken, before it was fed last.
+    reached: usize,
 }
 
 impl Model for HttpWindow {
@@ -52,6 +59,14 @@ fn part(bytes: &Vec<u8>, from: usize, to: usize) -> &[u8]
     ensures { result.now ≡ slice_range bytes.now.items from to }
 {
     &bytes[from..to]
+}
+
+// How many bytes the memory of a window had at most, where it was so many before.
+fn reached(before: usize, held: &Held) -> usize {
+    before
+        .max(held.bytes.len())
+        .max(held.joined.len())
+        .max(held.queue.capacity().saturating_mul(EACH_QUEUED))
 }
 
 // Memory for the bodies of a window, which begins with these bytes. None: there is none.
@@ -107,7 +122,11 @@ impl HttpWindow {
             lent,
             joined: Vec::new(alloc),
         };
-        Ok(HttpWindow { alloc, held })
+        Ok(HttpWindow {
+            alloc,
+            held,
+            reached: 0,
+        })
     }
 
     /// Adds as much of the piece as there is room for, and says how much.
@@ -126,36 +145,39 @@ impl HttpWindow {
         if let Some(fault) = self.held.fault {
             return Err(FeedFault::Fault(fault));
         }
+        self.reached = reached(self.reached, &self.held);
         let taken = piece.len().min(ROOM - self.held.count());
         self.held.take(self.alloc, &piece[..taken])?;
         Ok(taken)
     }
 
-    // Gives back the memory that bodies took which were given, where little is held; where there is none for another window all stays as
-    // it is. Nothing else changes.
-    fn give_back(&mut self)
+    /// Gives back what memory more than 16,384 bytes of requests took, where no more than 8,192 are held now. Where there is none for
+    /// another window all stays as it is. Nothing else changes.
+    pub fn give_back(&mut self)
         ensures { self.new ≡ self.old }
     {
-        let held = self.held.bytes.len() - self.held.from;
-        if held > FEW || self.held.bytes.len() <= FEW {
+        if reached(self.reached, &self.held) <= MOST_KEPT {
             return;
         }
         self.held.pack();
-        if let Some(bytes) = copied(self.alloc, &self.held.bytes) {
-            self.held.bytes = bytes;
-            self.held.joined = Vec::new(self.alloc);
+        if self.held.count() > FEW {
+            return;
         }
+        let Some(bytes) = copied(self.alloc, &self.held.bytes) else {
+            return;
+        };
+        self.held.bytes = bytes;
+        self.held.joined = Vec::new(self.alloc);
+        self.held.queue.shrink_to(MOST_QUEUED);
+        self.reached = 0;
     }
 
     /// The next item; `None` exactly where none waits, and then there is room. Its own room is free from the
-    /// next call on. It takes no memory, but where none waits and little is held after much: then what took that is given back.
+    /// next call on. It takes no memory.
     pub fn next(&mut self) -> Option<ItemRef<'_>>
         ensures* after { sem 𝓛 (Leaves self.entry result) }
     {
-        let Some(given) = self.held.give() else {
-            self.give_back();
-            return None;
-        };
+        let given = self.held.give()?;
         let held = &self.held;
         match given {
             Given::Continue => Some(ItemRef::Continue),

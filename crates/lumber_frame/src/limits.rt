@@ -8,5 +8,8 @@ pub const MOST_FRAMES: u32 = 65_536;
 /// of 131,072 bytes, and ten before it.
 pub const ROOM: usize = 131_140;
 
-/// How many bytes a window holds at most of which it keeps the memory of no more: what a short read brings.
+/// How many bytes a window holds at most that gives memory back: what a short read brings.
 pub const FEW: usize = 8_192;
+
+/// How many bytes its memory had at most that keeps it then: those, and what the next short read brings.
+pub const MOST_KEPT: usize = 16_384;

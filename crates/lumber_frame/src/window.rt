@@ -9,7 +9,7 @@ ghost use Rattle.lumber_frame.specs.declared.side.Side.TheVariants.{Receiver};
 use crate::fault::LumberFault;
 use crate::field::{Phase, START};
 use crate::lent::{LumberRef, lend};
-use crate::limits::{FEW, ROOM};
+use crate::limits::{FEW, MOST_KEPT, ROOM};
 use crate::run::{find, judge};
 use crate::side::Side;
 use std::alloc::{AllocError, Global};
@@ -63,6 +63,8 @@ pub struct LumberWindow {
     at: u64,
     // What has been read of the frame from `whole` on.
     phase: Phase,
+    // How many bytes the memory had at most since it was taken.
+    reached: usize,
     fault: Option<LumberFault>,
 }
 
@@ -102,6 +104,7 @@ impl LumberWindow {
             whole: 0,
             at: 0,
             phase: START,
+            reached: 0,
             fault: None,
         })
     }
@@ -134,6 +137,7 @@ impl LumberWindow {
         self.whole = waits + judged.end;
         self.at += judged.end as u64;
         self.phase = judged.phase;
+        self.reached = self.reached.max(self.bytes.len());
         if let Some(why) = judged.fault {
             let at = self.at + judged.phase.at as u64;
             let fault = LumberFault { at, why };
@@ -143,33 +147,32 @@ impl LumberWindow {
         Ok(taken)
     }
 
-    // Gives back the memory that much took which was given, where little is held; where there is none for another window all stays as it
-    // is. Nothing else changes.
-    fn give_back(&mut self)
+    /// Gives back what memory more than 16,384 bytes took, where no more than 8,192 are held now. Where there is none for another window
+    /// all stays as it is. Nothing else changes.
+    pub fn give_back(&mut self)
         ensures { self.new ≡ self.old }
     {
         let held = self.bytes.len() - self.from;
-        if held > FEW || self.bytes.len() <= FEW {
+        if held > FEW || self.reached <= MOST_KEPT {
             return;
         }
         let alloc = *self.bytes.allocator();
-        if let Some(bytes) = copied(alloc, &self.bytes[self.from..]) {
-            self.bytes = bytes;
-            self.whole -= self.from;
-            self.from = 0;
-        }
+        let Some(bytes) = copied(alloc, &self.bytes[self.from..]) else {
+            return;
+        };
+        self.bytes = bytes;
+        self.whole -= self.from;
+        self.from = 0;
+        self.reached = 0;
     }
 
     /// The next whole frame; `None` exactly where none waits. Its room is free from the next call on. It
-    /// takes no memory, but where none waits and little is held after much: then what took that is given back.
+    /// takes no memory.
     pub fn next(&mut self) -> Option<LumberRef<'_>>
         ensures* after { sem 𝓛 (Leaves self.entry result) }
         ensures limits { IfSome result (λ f. IsFrameFor Receiver (frame_lent f)) }
     {
-        let Some((whole, n)) = find(Side::Receiver, &self.bytes[self.from..self.whole]) else {
-            self.give_back();
-            return None;
-        };
+        let (whole, n) = find(Side::Receiver, &self.bytes[self.from..self.whole])?;
         let begin = self.from;
         self.from = begin + n;
         Some(lend(whole, &self.bytes[begin..begin + n]))
