@@ -9,7 +9,7 @@ ghost use Rattle.conn_serve.specs.Says.{HasCarried, MaySay};
 ghost use Rattle.conn_serve.specs.Serves.{CarriedBy, Serves};
 
 use crate::connection::Connection;
-use crate::feed::{buffer, fit, turn};
+use crate::feed::{buffer, fit, heard, turn};
 use crate::hec::session::HecSession;
 use crate::lumberjack::session::LumberSession;
 use crate::relp::session::RelpSession;
@@ -109,7 +109,8 @@ fn run<L: Link, A: Access, S: Session>(
             Err(talk) => return talk,
         };
         total += len as u64;
-        fit(alloc, buf, group, len);
+        let came = heard(link, buf.len(), len);
+        fit(alloc, buf, group, came);
         if let Some(talk) = over(session, len) {
             return close(link, access, connection, session, talk);
         }
@@ -191,7 +192,7 @@ fn attend_by<L: Link, A: Access>(
 }
 
 /// Serves one connection to its end, by the protocol of the rules. It reads pieces of at most 8,192 bytes, or
-/// of 65,536 where the rules say that events of one piece are stored together and the pieces before were full, tells
+/// of 65,536 where the rules say that events of one piece are stored together, the pieces before were full and the peer isn't silent, tells
 /// the link what memory that takes, and does what the protocol's table says for each whole frame, one after another. `conn` is the connection's number in the spool; its
 /// entries are counted from 0. Each text is written as one piece. `carried` says which bytes were read, each a
 /// number below 256, which calls were made on the desk, which bytes were written, and how many entries were

@@ -51,6 +51,11 @@ pub trait Session {
     fn need(&self, asked: usize, more: usize) -> u64
         ensures { result ≡ takes self.now asked more };
 
+    /// Gives back memory that a window took, where the next read asks for `asked` bytes, no more than a short one, and no more are held.
+    /// Nothing else changes.
+    fn rest(&mut self, asked: usize)
+        ensures { self.new ≡ self.old };
+
     /// Adds as much of the next bytes as there is room for, at least one of them if there are any, and
     /// answers how many. Where they have a fault, it answers that it took them all. It takes no memory.
     fn feed(&mut self, piece: &[u8]) -> usize

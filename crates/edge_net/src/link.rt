@@ -7,13 +7,19 @@ use crate::trouble::{Way, is_reset};
 use crate::watch::Watch;
 use crate::{Reports, Waits};
 use edge_io::{Link, Object, Proto, ReadFault, Shortage, Sink, Source, WriteFault};
+use libc::net::{POLLIN, poll};
+use libc::types::pollfd;
 use std::io::{self, ErrorKind, Read, Write};
 use std::net::{SocketAddr, TcpStream};
+use std::os::fd::AsRawFd;
 use std::rt::Clock;
 use std::time::Duration;
 
 // How many times a call is made, where signals interrupt it each time.
 const MOST_TRIES: u32 = 1_000;
+
+// How long a peer sends nothing that is said to be silent, in milliseconds.
+const SILENT_MILLIS: i32 = 1_000;
 
 // How long a sender may be silent whose connection takes much memory while another one waits for some, in seconds.
 const TURN_SECONDS: u64 = 10;
@@ -373,6 +379,16 @@ impl<R: Clock + Eprint> Link for TcpLink<'_, R> {
                 self.wait_in_turns();
             }
         }
+    }
+
+    /// Waits for the peer for a second, and leaves what comes, and how the connection ends, for the next read.
+    fn is_silent(&self) -> bool {
+        let mut waits = [pollfd {
+            fd: self.stream.as_raw_fd(),
+            events: POLLIN,
+            revents: 0,
+        }];
+        poll(&mut waits, SILENT_MILLIS) == 0
     }
 
     ghost reads_keep = { λ x y same. (Prim.cc, same.0, same.1) };

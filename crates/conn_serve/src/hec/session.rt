@@ -14,7 +14,7 @@ use super::act::serve_item;
 use super::asked::Asked;
 use super::last::LastReply;
 use crate::connection::Connection;
-use crate::memory::need_of;
+use crate::memory::{is_short, need_of};
 use crate::session::Session;
 use crate::talk::say;
 use desk_access::Access;
@@ -112,6 +112,12 @@ impl Session for HecSession {
 
     fn need(&self, asked: usize, more: usize) -> u64 {
         need_of(WHOLE, asked, self.window.held(), more)
+    }
+
+    fn rest(&mut self, asked: usize) {
+        if is_short(asked) {
+            self.window.give_back();
+        }
     }
 
     fn feed(&mut self, piece: &[u8]) -> usize {

@@ -36,3 +36,5 @@ mod relp_endings;
 mod relp_rows;
 #[cfg(test)]
 mod relp_runs;
+#[cfg(test)]
+mod silent;
