@@ -1,5 +1,5 @@
 //! The window over a stream that comes in pieces.
-ghost use Rattle.std.specs.Prelude.{◌≡◌, ℕ, ◌+◌, ◌≤◌, ◌^◌, List, [], length, slice_range, ◌↔◌, IsNone, IfOk, IfSome, Some, None, Err};
+ghost use Rattle.std.specs.Prelude.{◌≡◌, ℕ, ◌+◌, ◌≤◌, ◌^◌, List, [], length, slice_range, ◌↔◌, IsNone, IsSome, IfOk, IfSome, Some, None, Err};
 ghost use Rattle.std.specs.Borrow.{sem};
 ghost use Rattle.event_form.specs.declared.feed_fault.FeedFault.TheVariants.{Fault};
 ghost use Rattle.http_edge.specs.declared.fault.HttpFault.{HttpFault};
@@ -12,6 +12,7 @@ use crate::held::{Given, Held};
 use crate::item::ItemRef;
 use crate::limits::{MOST_HEAD, ROOM};
 use crate::part::HeadPart;
+use crate::past_body::PastBody;
 use crate::stage::Stage;
 use event_form::{Blob, FeedFault};
 use std::alloc::{AllocError, Global};
@@ -52,8 +53,11 @@ fn part(bytes: &Vec<u8>, from: usize, to: usize) -> &[u8]
 }
 
 impl HttpWindow {
+    ghost use Rattle.std.specs.Prelude.{◌⊎◌, OnOk, OnErr, MatchOption};
+    ghost use Rattle.http_edge.specs.declared.request.HttpItem.{HttpItem};
     ghost use Rattle.http_edge.specs.Window.{CountsHeads, Feeds, Reads, clear, held_of, taken_of};
     ghost use Rattle.http_edge.specs.Loan.{Leaves};
+    ghost use Rattle.http_edge.specs.Past.{Becomes, clear_at};
 
     /// A window at the stream's first byte. It keeps the allocator for the heads of what it is fed.
     pub fn new(alloc: Global) -> Result<HttpWindow, AllocError>
@@ -148,5 +152,42 @@ impl HttpWindow {
         } else {
             Some(held.at)
         }
+    }
+
+    /// The head of the unfinished request, once it is whole; `None` where none is, or the bytes have a fault. It takes no memory.
+    pub fn unfinished(&self) -> Option<&Head>
+        ensures { MatchOption result ((self.now.reading.begun ≡ None) ⊎ IsSome self.now.reading.fault)
+            (λ head. (self.now.reading.begun ≡ Some head.now) × (self.now.reading.fault ≡ None)) }
+    {
+        match &self.held.fault {
+            None => self.held.begun.as_ref(),
+            Some(_) => None,
+        }
+    }
+
+    /// Gives up the unfinished request, whose head is whole, where nothing waits, so that its body is read past. Its bytes are held no
+    /// longer, nor is anything else. `go_on` says where the window reads on. The only error is want of memory; all stays then.
+    pub fn leave(&mut self) -> Result<PastBody, AllocError>
+        requires waiting { self.old.reading.waiting ≡ [] }
+        requires begun { IsSome self.old.reading.begun }
+        requires fault { self.old.reading.fault ≡ None }
+        requires reached { (fed : List ℕ) × (given : List HttpItem) × Reads fed given self.old }
+        ensures becomes { IfOk result (Becomes self.old.reading) }
+        ensures emptied { OnOk result ((self.new.reading ≡ clear_at self.old.reading.at) × (held_of self.new ≡ 0)) }
+        ensures stays { OnErr result (self.new ≡ self.old) }
+    {
+        let past = self.held.leave(self.alloc)?;
+        Ok(PastBody::of(self.alloc, past))
+    }
+
+    /// Reads on at an offset, where it holds nothing of a request: after a body that was read past, or at the request whose body had a
+    /// fault. It takes no memory.
+    pub fn go_on(&mut self, at: u64, fault: Option<HttpFault>)
+        requires begun { self.old.reading.begun ≡ None }
+        requires unread { self.old.reading.unread ≡ [] }
+        requires place { at ≤ 2 ^ 40 }
+        ensures { self.new ≡ record self.old { reading = record self.old.reading { at = at; fault = fault } } }
+    {
+        self.held.go_on(at, fault);
     }
 }
