@@ -79,7 +79,7 @@ in x
 in POST /services/collector/event HTTP/1.1\r\nContent-Length: 14\r\n\r\n
 in {"event":"ab"
 steps 1000
-ends Truncated { at: 64 }, 0 taken
+ends Truncated { at: 63 }, 0 taken
 out HTTP/1.1 401 Unauthorized\r\nContent-Type: application/json\r\nContent-Length: 37\r\n\r\n
 out {"text":"Token is required","code":2}
 
