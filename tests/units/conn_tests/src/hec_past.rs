@@ -84,13 +84,13 @@ out HTTP/1.1 401 Unauthorized\r\nContent-Type: application/json\r\nContent-Lengt
 out {"text":"Token is required","code":2}
 
 row a chunk line in a refused body that is none
-- It lies 76 bytes after the request's first one.
+- It lies 79 bytes after the request's first one: 71 of the head, and 8 of the chunk before it.
 in POST /services/collector/event HTTP/1.1\r\nTransfer-Encoding: chunked\r\n\r\n
 in 3\r\nabc\r\n
 in q\r\n
 in POST /services/collector/event HTTP/1.1\r\n
 steps 1000
-ends Fault { at: 82, why: BadChunk }, 0 taken
+ends Fault { at: 79, why: BadChunk }, 0 taken
 out HTTP/1.1 400 Bad Request\r\nContent-Type: application/json\r\nContent-Length: 39\r\nConnection: close\r\n\r\n
 out {"text":"Invalid data format","code":6}
 
@@ -107,7 +107,7 @@ in POST /services/collector/event HTTP/1.1\r\nTransfer-Encoding: chunked\r\n\r\n
 in 3\r\nabc\r\n
 in 0\r\n : a\r\n\r\n
 steps 1000
-ends Fault { at: 85, why: BadChunk }, 0 taken
+ends Fault { at: 82, why: BadChunk }, 0 taken
 out HTTP/1.1 400 Bad Request\r\nContent-Type: application/json\r\nContent-Length: 39\r\nConnection: close\r\n\r\n
 out {"text":"Invalid data format","code":6}
 
