@@ -77,27 +77,32 @@ impl Intake {
         requires fits { extent_of self.old + length piece.now ≤ 2 ^ 40 }
         ensures feeds { FeedsKept self.old piece.now result self.new }
         ensures within { IfOk result (λ n. n ≤ length piece.now) }
-        ensures some { IfOk result (λ n. 0 < length piece.now → 0 < n) }
+        ensures some { IfOk result (λ n. held_of self.old.window < 1064960 → 0 < length piece.now → 0 < n) }
         ensures extent { IfOk result (λ n. extent_of self.new ≤ extent_of self.old + n) }
         ensures faulty { IfErr result (λ _. extent_of self.new ≤ extent_of self.old + length piece.now) }
     {
-        let Some(refused) = &mut self.refused else {
-            return Ok(0);
+        let Some(mut refused) = self.refused.take() else {
+            unreachable!();
         };
         match refused.past.feed(piece) {
-            Ok(Way::Open) => Ok(piece.len()),
+            Ok(Way::Open) => {
+                self.refused = Some(refused);
+                Ok(piece.len())
+            }
             Ok(Way::Whole { used, end }) => {
                 refused.ended = true;
+                self.refused = Some(refused);
                 self.window.go_on(end, None);
                 Ok(used)
             }
             Ok(Way::Bad(fault)) => {
-                let at = refused.past.at();
-                self.refused = None;
-                self.window.go_on(at, Some(fault));
+                self.window.go_on(refused.past.at(), Some(fault));
                 Err(FeedFault::Fault(fault))
             }
-            Err(_) => Err(FeedFault::NoMemory),
+            Err(_) => {
+                self.refused = Some(refused);
+                Err(FeedFault::NoMemory)
+            }
         }
     }
 
@@ -130,24 +135,18 @@ impl Intake {
         ensures less { IfSome result (λ _. waits_of self.new < waits_of self.old) }
         ensures none { IfNone result ((self.new ≡ self.old) × IsOpen self.old.window self.old.refused) }
     {
-        match &self.refused {
-            Some(
-                Refused {
-                    reply,
-                    closing,
-                    ended: true,
-                    ..
-                },
-            ) => {
-                let asked = Asked::Act {
-                    act: HecAct::Say(*reply),
-                    closing: *closing,
-                };
-                self.refused = None;
-                Some(asked)
-            }
-            _ => None,
+        let Some(refused) = &self.refused else {
+            return None;
+        };
+        if !refused.ended {
+            return None;
         }
+        let asked = Asked::Act {
+            act: HecAct::Say(refused.reply),
+            closing: refused.closing,
+        };
+        self.refused = None;
+        Some(asked)
     }
 
     // Judges the unfinished request by its head, once that is whole: where it is refused whatever its body is, it leaves the window.
@@ -161,7 +160,10 @@ impl Intake {
         ensures left { OnOk result (IsLeft self.new) }
         ensures extent { OnOk result (extent_of self.new ≤ extent_of self.old) }
     {
-        if self.wanted || self.refused.is_some() {
+        if self.wanted {
+            return Ok(());
+        }
+        if self.refused.is_some() {
             return Ok(());
         }
         let Some(head) = self.window.unfinished() else {

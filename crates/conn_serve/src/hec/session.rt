@@ -1,5 +1,5 @@
 //! A session of the HTTP Event Collector.
-ghost use Rattle.std.specs.Prelude.{◌≡◌, ◌↔◌, ◌+◌, [], Some, None, IfOk, IsTrue};
+ghost use Rattle.std.specs.Prelude.{◌≡◌, ◌↔◌, ◌+◌, [], Some, None, IfOk, IsSome, IsTrue};
 ghost use Rattle.event_form.specs.declared.feed_fault.FeedFault.TheVariants as feed;
 ghost use Rattle.http_edge.specs.Window.{Reads, clear, held_of};
 ghost use Rattle.desk_access.specs.Carried.{Carried};
@@ -90,6 +90,12 @@ impl Session for HecSession {
 
     fn need(&self, asked: usize, more: usize) -> u64 {
         need_of(WHOLE, asked, self.intake.window.held(), more)
+    }
+
+    ghost passes = { λ s. IsSome s.intake.refused };
+
+    fn is_passing(&self) -> bool {
+        self.intake.refused.is_some()
     }
 
     fn feed(&mut self, piece: &[u8]) -> usize {

@@ -1,5 +1,5 @@
 //! A session of RELP.
-ghost use Rattle.std.specs.Prelude.{◌≡◌, ◌+◌, ◌<◌, ◌≤◌, ◌^◌, [], length, Option, None, IfOk, IfErr, OnOk, IsErrOf, false, true};
+ghost use Rattle.std.specs.Prelude.{◌≡◌, ⊥, ◌+◌, ◌<◌, ◌≤◌, ◌^◌, [], length, Option, None, IfOk, IfErr, OnOk, IsErrOf, false, true};
 ghost use Rattle.relp_frame.specs.Reading as stream;
 ghost use Rattle.relp_frame.specs.Spelling.{IsSpelling};
 ghost use Rattle.relp_frame.specs.declared.fault.RelpFault.{RelpFault as TheFault};
@@ -131,6 +131,12 @@ impl Session for RelpSession {
 
     fn need(&self, asked: usize, more: usize) -> u64 {
         need_of(WHOLE, asked, self.window.held(), more)
+    }
+
+    ghost passes = { λ _. ⊥ };
+
+    fn is_passing(&self) -> bool {
+        false
     }
 
     fn feed(&mut self, piece: &[u8]) -> usize {
