@@ -1,6 +1,7 @@
 -- What an intake reads of a piece past a body, what it gives, and how it judges a head.
 use Rattle.std.proofs.Common.{◌≡◌, ℕ, ◌+◌, ◌<◌, ◌≤◌, Bool, true, false, List, [], ◌∷◌, ◌++◌, Option, Some, None, length, take, refl, sym, ap, ◌∙◌, subst, arith, append_assoc, length-append, take_all}
-use Rattle.std.specs.Prelude.{Ok, Err, if◌then◌else◌}
+use Rattle.std.specs.Prelude.{Ok, Err, is_some, if◌then◌else◌}
+use Rattle.event_form.specs.declared.feed_fault.FeedFault.{FeedFault}
 use Rattle.event_form.specs.declared.feed_fault.FeedFault.TheVariants as feed
 use Rattle.http_edge.specs.declared.fault.HttpFault.{HttpFault}
 use Rattle.http_edge.specs.declared.head.Head.{Head}
@@ -15,6 +16,7 @@ use Rattle.http_edge.specs.Reading as reading
 use Rattle.http_edge.specs.Reading.{Reading, come}
 use Rattle.http_edge.specs.Waits.{with_body}
 use Rattle.http_edge.specs.Window.{Reads, ReadsOn, Window, held_of}
+use Rattle.http_edge.specs.Window.{clear as empty}
 use Rattle.http_edge.proofs.FeedLaws.{reads_waiting}
 use Rattle.hec_session.specs.Acts.{IsRefusal}
 use Rattle.hec_session.specs.Codes.{IsReply}
@@ -25,7 +27,7 @@ use Rattle.conn_serve.specs.declared.hec.asked.Asked.TheVariants.{Act}
 use Rattle.conn_serve.specs.declared.hec.intake.Intake.{Intake}
 use Rattle.conn_serve.specs.declared.hec.intake.Refused.{Refused}
 use Rattle.conn_serve.specs.HecServing.{GivesAsked}
-use Rattle.conn_serve.specs.HecReading.{FeedsAs, FeedsKept, FeedsOne, GivesKept, GivesOne, HoldsBody, IsClear, IsKept, IsOpen, IsRefused, IsSound, StaysRead, extent_of, reached_by, waiting_in, window_at}
+use Rattle.conn_serve.specs.HecReading.{FeedsAs, FeedsKept, FeedsOne, GivesKept, GivesOne, HoldsBody, IsClear, IsIdle, IsKept, IsLeft, IsOpen, IsRefused, IsSound, StaysRead, extent_of, waits_of, reached_by, waiting_in, window_at}
 
 -- ---- a piece past a body
 
@@ -213,6 +215,153 @@ judges tokens o new x head none begun becomes refusal reply closing going emptie
     some_same : (h k : Head) → Some h ≡ Some k → h ≡ k
     some_same h k e = cc
 
--- how far the bytes have come
-pub extent_open : (w : Window) (x : Refused) → x.ended ≡ false → reached_by w (Some x) ≡ come_to x.past
+-- ---- how far the bytes have come
+
+extent_open : (w : Window) (x : Refused) → x.ended ≡ false → reached_by w (Some x) ≡ come_to x.past
 extent_open w x going = ap (λ (b : Bool). if b then w.reading.at + come w.reading else come_to x.past) going
+
+extent_past : (o : Intake) (x : Refused) → o.refused ≡ Some x → x.ended ≡ false → extent_of o ≡ come_to x.past
+extent_past o x e going = ap (reached_by o.window) e ∙ extent_open o.window x going
+
+pub open_of : (w : Window) (r : Option Refused) (x : Refused) → r ≡ Some x → IsOpen w r → (x.ended ≡ false) × IsClear w
+open_of w r x e going = subst (IsOpen w) e going
+
+-- a piece that the intake may read may be read past the body
+pub fits_past : (o : Intake) (x : Refused) (n most : ℕ) → o.refused ≡ Some x → x.ended ≡ false → extent_of o + n ≤ most → come_to x.past + n ≤ most
+fits_past o x n most e going fits = omega (arith, extent_past o x e going, fits)
+
+-- and by the window
+pub fits_window : (o : Intake) (n most : ℕ) → o.refused ≡ None → extent_of o + n ≤ most → o.window.reading.at + come o.window.reading + n ≤ most
+fits_window o n most e fits = let is : extent_of o ≡ o.window.reading.at + come o.window.reading = ap (reached_by o.window) e in omega (arith, is, fits)
+
+pub extent_more : (o new : Intake) (x : Refused) (p : Past) (n : ℕ) → o.refused ≡ Some x → x.ended ≡ false → come_to p ≡ come_to x.past + n → new.refused ≡ Some (record x { past = p }) → extent_of new ≤ extent_of o + n
+extent_more o new x p n e going sum refused =
+    omega (arith, extent_past o x e going, extent_past new (record x { past = p }) refused going, sum)
+
+pub extent_whole : (o new : Intake) (x : Refused) (p : Past) (used end : ℕ) → o.refused ≡ Some x → x.ended ≡ false → IsClear o.window → end ≡ come_to x.past + used
+    → new.window ≡ record o.window { reading = record o.window.reading { at = end; fault = None } } → new.refused ≡ Some (record x { past = p; ended = true }) → extent_of new ≤ extent_of o + used
+extent_whole o new x p used end e going clear sum window refused =
+    let m = moved_clear o.window new.window end None clear window in
+    let is : extent_of new ≡ new.window.reading.at + come new.window.reading = ap (reached_by new.window) refused in
+    let at : new.window.reading.at ≡ end = ap (λ (r : Reading). r.at) m.0 in
+    let none : come new.window.reading ≡ 0 = ap come m.0 in
+    omega (arith, is, at, none, sum, extent_past o x e going)
+
+pub extent_faulty : (o new : Intake) (x : Refused) (at n : ℕ) (fault : HttpFault) → o.refused ≡ Some x → x.ended ≡ false → IsClear o.window → at ≡ x.past.at
+    → new.window ≡ record o.window { reading = record o.window.reading { at = at; fault = Some fault } } → new.refused ≡ None → extent_of new ≤ extent_of o + n
+extent_faulty o new x at n fault e going clear same window refused =
+    let m = moved_clear o.window new.window at (Some fault) clear window in
+    let is : extent_of new ≡ new.window.reading.at + come new.window.reading = ap (reached_by new.window) refused in
+    let begins : new.window.reading.at ≡ at = ap (λ (r : Reading). r.at) m.0 in
+    let none : come new.window.reading ≡ 0 = ap come m.0 in
+    omega (arith, is, begins, none, same, extent_past o x e going)
+
+pub extent_same : (o new : Intake) (n : ℕ) → new.window ≡ o.window → new.refused ≡ o.refused → extent_of new ≤ extent_of o + n
+extent_same o new n window refused =
+    let is : extent_of new ≡ extent_of o = λ j. reached_by (window j) (refused j) in
+    omega (arith, is)
+
+pub extent_fed : (o new : Intake) (n : ℕ) → o.refused ≡ None → new.refused ≡ None → new.window.reading.at + come new.window.reading ≤ o.window.reading.at + come o.window.reading + n → extent_of new ≤ extent_of o + n
+extent_fed o new n none none' room =
+    let was : extent_of o ≡ o.window.reading.at + come o.window.reading = ap (reached_by o.window) none in
+    let is : extent_of new ≡ new.window.reading.at + come new.window.reading = ap (reached_by new.window) none' in
+    omega (arith, was, is, room)
+
+-- the request that was read past is given
+pub extent_ended : (o new : Intake) (x : Refused) → o.refused ≡ Some x → x.ended ≡ true → new.window ≡ o.window → new.refused ≡ None → extent_of new ≤ extent_of o
+extent_ended o new x e ended window refused =
+    let was : extent_of o ≡ o.window.reading.at + come o.window.reading = ap (reached_by o.window) e ∙ ap (λ (b : Bool). if b then o.window.reading.at + come o.window.reading else come_to x.past) ended in
+    let is : extent_of new ≡ o.window.reading.at + come o.window.reading = ap (reached_by new.window) refused ∙ ap (λ (w : Window). w.reading.at + come w.reading) window in
+    omega (arith, was, is)
+
+pub waits_ended : (o new : Intake) (x : Refused) → o.refused ≡ Some x → x.ended ≡ true → new.window ≡ o.window → new.refused ≡ None → waits_of new < waits_of o
+waits_ended o new x e ended window refused =
+    let n = length o.window.reading.waiting in
+    let was : waits_of o ≡ n + 1 = ap (waiting_in o.window) e ∙ ap (λ (b : Bool). if b then n + 1 else n) ended in
+    let is : waits_of new ≡ n = ap (waiting_in new.window) refused ∙ ap (λ (w : Window). length w.reading.waiting) window in
+    omega (arith, was, is)
+
+-- the next item in the window is given
+pub extent_held : (tokens : Tokens) (o new : Intake) (asked : Asked) → IsOpen o.window o.refused → GivesAsked tokens o.window (Some asked) new.window → new.refused ≡ o.refused → (extent_of new ≤ extent_of o) × (waits_of new < waits_of o)
+extent_held tokens o new asked going (i, g, asks) refused = go o.refused refl going
+  where
+    go : (r : Option Refused) → o.refused ≡ r → IsOpen o.window r → (extent_of new ≤ extent_of o) × (waits_of new < waits_of o)
+    go None e going =
+        let was : extent_of o ≡ o.window.reading.at + come o.window.reading = ap (reached_by o.window) e in
+        let is : extent_of new ≡ new.window.reading.at + come new.window.reading = ap (reached_by new.window) (refused ∙ e) in
+        let waited : waits_of o ≡ length o.window.reading.waiting = ap (waiting_in o.window) e in
+        let waits : waits_of new ≡ length new.window.reading.waiting = ap (waiting_in new.window) (refused ∙ e) in
+        (omega (arith, was, is, g.at_is, g.come_is), omega (arith, waited, waits, ap length g.first))
+    go (Some x) e (going, clear) = let none : i ∷ new.window.reading.waiting ≡ [] = sym g.first ∙ ap (λ (r : Reading). r.waiting) clear.0 in absurd (cc)
+
+-- the unfinished request leaves
+pub extent_left : (o new : Intake) (x : Refused) → o.refused ≡ None → Becomes o.window.reading x.past → x.ended ≡ false → new.refused ≡ Some x → extent_of new ≤ extent_of o
+extent_left o new x none becomes going refused =
+    let r = o.window.reading in
+    let was : extent_of o ≡ r.at + come r = ap (reached_by o.window) none in
+    let at : x.past.at ≡ r.at = ap (λ (y : Reading). y.at) becomes.0 in
+    let has : x.past.read + length x.past.unread.items ≡ come r = ap come becomes.0 in
+    omega (arith, was, at, has, extent_past new x refused going)
+
+-- and nothing waits then
+pub left_past : (new : Intake) (x : Refused) (at : ℕ) → (new.window.reading ≡ clear_at at) × (held_of new.window ≡ 0) → new.refused ≡ Some x → x.ended ≡ false → IsLeft new
+left_past new x at (clear, none) refused going =
+    let same : new.window.reading.at ≡ at = ap (λ (r : Reading). r.at) clear in
+    record {
+      none = ap (λ (r : Reading). r.waiting) clear;
+      space = omega (arith, none);
+      going = subst (IsOpen new.window) (sym refused) (going, (clear ∙ ap clear_at (sym same), none));
+    }
+
+-- of a request that hasn't ended nothing is held in the window
+pub open_past : (tokens : Tokens) (w : Window) (r : Option Refused) (x : Refused) → r ≡ Some x → x.ended ≡ false → IsSound tokens w r → IsOpen w r
+open_past tokens w r x e going sound = subst (IsOpen w) (sym e) (going, (sound_of tokens w r x e sound).clear)
+
+-- ---- an intake that was fed nothing
+
+pub idle_new : (o : Intake) (met : Option (FeedFault HttpFault)) → o.window ≡ empty → o.refused ≡ None → met ≡ None → IsIdle o met
+idle_new o met window none sound = record {
+  none = ap (λ (w : Window). w.reading.waiting) window;
+  space = let held : held_of o.window ≡ 0 = ap held_of window in omega (arith, held);
+  going = subst (IsOpen o.window) (sym none) tt;
+  found = λ is. cc;
+}
+
+pub extent_new : (o : Intake) → o.window ≡ empty → o.refused ≡ None → extent_of o ≡ 0
+extent_new o window none = ap (reached_by o.window) none ∙ ap (λ (w : Window). w.reading.at + come w.reading) window
+
+-- ---- what the next item asks for
+
+-- the same of an intake that is the same
+pub gives_from : (tokens : Tokens) (o mid new : Intake) (asked : Option Asked) → mid ≡ o → GivesKept tokens mid asked new → GivesKept tokens o asked new
+gives_from tokens o mid new asked same g = subst (λ (y : Intake). GivesKept tokens y asked new) same g
+
+-- the answer to a request that was read past can be written
+pub reply_of : (tokens : Tokens) (w : Window) (r : Option Refused) (x : Refused) → r ≡ Some x → IsSound tokens w r → IsReply x.reply
+reply_of tokens w r x e sound = (sound_of tokens w r x e sound).reply
+
+-- an item of the window is given, where no request waits for its answer that was read past
+pub given_next : (tokens : Tokens) (o mid : Intake) (w : Window) (wanted : Bool) (asked : Asked) → (mid ≡ o) × IsOpen o.window o.refused → GivesAsked tokens mid.window (Some asked) w
+    → GivesKept tokens o (Some asked) (record mid { window = w; wanted = wanted }) × (extent_of (record mid { window = w; wanted = wanted }) ≤ extent_of o) × (waits_of (record mid { window = w; wanted = wanted }) < waits_of o)
+given_next tokens o mid w wanted asked (same, going) g =
+    let new : Intake = record mid { window = w; wanted = wanted } in
+    let still : IsOpen mid.window mid.refused = subst (λ (y : Intake). IsOpen y.window y.refused) (sym same) going in
+    let few = extent_held tokens mid new asked still g refl in
+    let was : extent_of mid ≡ extent_of o = ap extent_of same in
+    let waited : waits_of mid ≡ waits_of o = ap waits_of same in
+    (gives_from tokens o mid new (Some asked) same (gives_held tokens mid new asked still g refl), omega (arith, few.0, was), omega (arith, few.1, waited))
+
+-- none waits in the window, and the unfinished request is judged
+pub at_judge : (tokens : Tokens) (o mid : Intake) (w : Window) → (mid ≡ o) × IsOpen o.window o.refused → GivesAsked tokens mid.window None w
+    → (record mid { window = w } ≡ o) × (w.reading.waiting ≡ []) × (held_of w < 1064960) × IsOpen w mid.refused
+at_judge tokens o mid w (same, going) (none, stays, few) =
+    let is : record mid { window = w } ≡ o = (λ j. record mid { window = stays j }) ∙ same in
+    (is, ap (λ (y : Window). y.reading.waiting) stays ∙ none, few, subst (λ (y : Intake). IsOpen y.window y.refused) (sym is) going)
+
+-- it stays in the window
+pub left_open : (o : Intake) → o.window.reading.waiting ≡ [] → held_of o.window < 1064960 → IsOpen o.window o.refused → IsLeft o
+left_open o none space going = record { none = none; space = space; going = going }
+
+pub none_of : (r : Option Refused) → is_some r ≡ false → r ≡ None
+none_of None e = refl
+none_of (Some x) e = absurd (cc)
