@@ -1,5 +1,5 @@
 //! How a session gets the bytes of its connection.
-ghost use Rattle.std.specs.Prelude.{◌≡◌, ◌⊎◌, ◌+◌, ◌<◌, ◌≤◌, ◌^◌, ℕ, List, ◌++◌, Option, None, length, IfOk, IfErr, OnOk, IsErrOf};
+ghost use Rattle.std.specs.Prelude.{◌≡◌, ⊥, ◌↔◌, ◌⊎◌, ◌+◌, ◌<◌, ◌≤◌, ◌^◌, ℕ, List, ◌++◌, Option, None, length, IfOk, IfErr, OnOk, IsErrOf, IsTrue};
 ghost use Rattle.std.specs.Io.KnownBytes.{Appends, IsAtEnd, ReadConsumes, WriteAppends};
 ghost use Rattle.foundation.specs.Faults.{HasCause};
 ghost use Rattle.desk_access.specs.Endings.{IsAtMove};
@@ -52,6 +52,13 @@ pub fn heard<L: Link>(link: &L, asked: usize, came: usize) -> usize {
     } else {
         came
     }
+}
+
+/// Whether the next read may ask for many bytes: the events of one piece are stored as one group, and no body is read past.
+pub fn may_be_long<S: Session>(group: bool, session: &S) -> bool
+    ensures { IsTrue result ↔ (IsTrue group × (S.passes session.now → ⊥)) }
+{
+    group && !session.is_passing()
 }
 
 /// Fits the memory of reads to what the last one brought, so that a connection which is quiet keeps little of it: it is as long as the

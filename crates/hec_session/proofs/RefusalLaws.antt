@@ -1,8 +1,7 @@
 -- What the checks before the body find, they find whatever it is.
-use Rattle.std.proofs.Common.{◌≡◌, ℕ, List, Result, Option, Some, None, Ok, Err, sym, ap, ◌∙◌, subst}
+use Rattle.std.proofs.Common.{◌≡◌, ℕ, List, Result, None, Ok, Err, sym, ap, ◌∙◌, subst}
 use Rattle.http_edge.specs.declared.head.Head.{Head}
 use Rattle.http_edge.specs.Waits.{with_body}
-use Rattle.hec_session.specs.declared.act.HecAct.{HecAct}
 use Rattle.hec_session.specs.declared.act.HecAct.TheVariants.{Say}
 use Rattle.hec_session.specs.declared.code.HecCode.{HecCode}
 use Rattle.hec_session.specs.declared.say.HecSay.{HecSay}

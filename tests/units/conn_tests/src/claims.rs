@@ -9,7 +9,8 @@ type Row = (Proto, &'static str, u64, u64);
 
 // What each takes, what a few bytes more do, and the whole by each protocol. A frame of 20,000 bytes comes in reads of 8,192. A burst of
 // 9,057 bytes has the next read ask for more; after a short one the next asks for less again. So it does after a long one where the sender
-// is silent since.
+// is silent since. A body that is refused by its head isn't held, and comes in reads of 8,192, where a run of events is stored as one group
+// too.
 const ROWS: &[Row] = &[
     (Proto::Relp, r"in 1 open 0\n", 16_384, 16_672),
     (
@@ -47,6 +48,18 @@ const ROWS: &[Row] = &[
         "slot 100000\nin POST /services/collector/event HTTP/1.1\\r\\nContent-Length: 20000\\r\\nAuthorization: Splunk 11111111-2222-3333-4444-555555555555\\r\\n\\r\\n{\"event\":\"\\{19988}\"}",
         16_384,
         8_388_608,
+    ),
+    (
+        Proto::Hec,
+        "in POST /services/collector/event HTTP/1.1\\r\\nContent-Length: 100000\\r\\n\\r\\n\\{50000}",
+        16_384,
+        278_528,
+    ),
+    (
+        Proto::Hec,
+        "group 1\nin POST /services/collector/event HTTP/1.1\\r\\nTransfer-Encoding: chunked\\r\\n\\r\\n186A0\\r\\n\\{100000}\\r\\n0\\r\\n\\r\\n",
+        16_384,
+        278_528,
     ),
 ];
 

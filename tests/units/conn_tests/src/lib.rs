@@ -19,6 +19,8 @@ mod harness;
 #[cfg(test)]
 mod hec_endings;
 #[cfg(test)]
+mod hec_past;
+#[cfg(test)]
 mod hec_refused;
 #[cfg(test)]
 mod hec_rows;
