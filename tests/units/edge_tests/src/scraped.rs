@@ -15,7 +15,7 @@ type StagedMonitor<'a, 'h> = TcpMonitor<'a, Staged<'h>>;
 const SECOND: u64 = 1_000;
 
 // A spool in which the entries from 990 on are pending, but for three of them.
-const NUMBERS: SpoolNumbers = SpoolNumbers {
+pub(crate) const NUMBERS: SpoolNumbers = SpoolNumbers {
     run: 7,
     end: 1_002,
     cursor: 990,
