@@ -142,7 +142,7 @@ fn run_taken<R: Threads + Wait + Sync + Copy + Send + 'static>(
     options: RunOptions,
 ) -> Ending {
     let alloc = rt.alloc();
-    let Ok(errors) = Arc::new(alloc, StandardError::new(rt)) else {
+    let Ok(errors) = Arc::new(alloc, StandardError::new(rt, options.has_time)) else {
         print_note(rt, Note::NoMemory);
         return Ending::Noted(Note::NoMemory);
     };

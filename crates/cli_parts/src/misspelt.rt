@@ -16,22 +16,30 @@ const COMMANDS: [&str; 9] = [
 
 const NO_COMMAND: [&str; 2] = ["--help", "--version"];
 
-const OTHERS: [&str; 3] = ["--quiet", "--help", "--version"];
+const OTHERS: [&str; 4] = ["--quiet", "--log-time", "--help", "--version"];
 
-const LIST: [&str; 4] = ["--as", "--quiet", "--help", "--version"];
+const LIST: [&str; 5] = ["--as", "--quiet", "--log-time", "--help", "--version"];
 
-const REPLAY: [&str; 5] = ["--token", "--ack-token", "--quiet", "--help", "--version"];
-
-const DRAIN: [&str; 6] = [
-    "--out-token",
-    "--out-channel",
-    "--polls",
+const REPLAY: [&str; 6] = [
+    "--token",
+    "--ack-token",
     "--quiet",
+    "--log-time",
     "--help",
     "--version",
 ];
 
-const SERVE: [&str; 21] = [
+const DRAIN: [&str; 7] = [
+    "--out-token",
+    "--out-channel",
+    "--polls",
+    "--quiet",
+    "--log-time",
+    "--help",
+    "--version",
+];
+
+const SERVE: [&str; 22] = [
     "--relp",
     "--lumberjack",
     "--hec",
@@ -51,6 +59,7 @@ const SERVE: [&str; 21] = [
     "--idle",
     "--memory",
     "--quiet",
+    "--log-time",
     "--help",
     "--version",
 ];

@@ -171,14 +171,14 @@ pub fn print_beside_wrong_option(
 }
 
 /// Says why the file of this path wasn't opened: that its folder is missing, or the fault.
-pub fn print_unopened(rt: &(impl Files + Eprint), path: &str, fault: OpenFault) {
-    if fault == OpenFault::NotFound
+pub fn print_unopened(rt: &(impl Files + Eprint), path: &str, why: OpenFault) {
+    if why == OpenFault::NotFound
         && let Some(folder) = missing_folder(rt, path)
     {
         let _ = eprintln!(rt; "bridge: {path}: no folder {folder}");
         return;
     }
-    let _ = eprintln!(rt; "bridge: {path}: {fault}");
+    let _ = eprintln!(rt; "bridge: {path}: {why}");
 }
 
 /// Names the file of this path, where the note says of what stands in it that it is no spool.
