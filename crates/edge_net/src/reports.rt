@@ -208,7 +208,7 @@ impl Reports {
         }
         let topic = Topic {
             peer: peer.ip(),
-            matter,
+            matter: matter.kind(),
         };
         if let Some(line) = self.line_about(rt, topic) {
             let _ = eprintln!(rt; "bridge: sender {peer}: {matter}{line}");

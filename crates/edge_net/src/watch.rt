@@ -1,12 +1,21 @@
 //! What is seen of a connection, for the lines about it.
-use crate::answer::reason_in;
+use crate::answer::{closes, reason_in};
+use crate::ending::explains;
 use crate::trouble::Way;
 use crate::{Answer, Illness, Matter, Reports, Trouble};
-use edge_io::{Proto, Shortage};
+use edge_io::Proto;
+use event_form::Talk;
 use std::io;
 use std::net::SocketAddr;
 use std::rt::Clock;
 use std::time::Duration;
+
+// A refusal of a request, with its code and the number of its reason, where it has one.
+#[derive(Clone, Copy)]
+struct Refused {
+    code: u16,
+    reason: Option<u16>,
+}
 
 /// What is seen of a connection, and where it is said. It changes nothing of the connection.
 #[derive(Drop)]
@@ -22,6 +31,8 @@ pub(crate) struct Watch<'a, R> {
     has_reply: bool,
     // A line was asked for about it, or its end is no news after what was seen.
     is_said: bool,
+    // The refusal that ends it, of which nothing was said yet.
+    last: Option<Refused>,
     // What a call met last that failed.
     trouble: Option<Trouble>,
 }
@@ -42,6 +53,7 @@ impl<'a, R> Watch<'a, R> {
             has_read: false,
             has_reply: false,
             is_said: false,
+            last: None,
             trouble: None,
         }
     }
@@ -96,7 +108,7 @@ impl<R: Clock + Eprint> Watch<'_, R> {
         }
     }
 
-    /// A write took so many bytes of this piece.
+    /// A write took so many bytes of this piece. A refusal after which the connection ends is said with its end.
     pub(crate) fn saw_write(&mut self, piece: &[u8], taken: usize) {
         let Some(peer) = self.peer else {
             return self.reports.counts().sent.add_many(taken as u64);
@@ -107,15 +119,23 @@ impl<R: Clock + Eprint> Watch<'_, R> {
         let Some(code) = answer.refusal() else {
             return;
         };
-        let matter = match answer {
-            Answer::Reply { .. } => Matter::RequestRefused {
-                code,
-                reason: reason_in(piece),
-            },
-            Answer::Frame { .. } => Matter::FrameRefused { code },
-        };
         self.is_said = true;
         self.reports.counts().refusals.add(answer);
+        let matter = match answer {
+            Answer::Reply { .. } => {
+                let reason = reason_in(piece);
+                if closes(piece) {
+                    self.last = Some(Refused { code, reason });
+                    return;
+                }
+                Matter::RequestRefused {
+                    code,
+                    reason,
+                    end: None,
+                }
+            }
+            Answer::Frame { .. } => Matter::FrameRefused { code },
+        };
         self.reports.sender(self.rt, peer, matter);
     }
 
@@ -132,22 +152,28 @@ impl<R: Clock + Eprint> Watch<'_, R> {
         self.fails(place, Illness::Lost { trouble });
     }
 
-    /// A connection that was accepted was served to its end, by this protocol and with this exit status, and this lacked then, if anything
-    /// did.
-    pub(crate) fn ended(&self, proto: Proto, status: u8, shortage: Option<Shortage>) {
-        let is_unused = !self.has_read && self.trouble == Some(Trouble::Reset);
-        if status == 0 || self.is_said || is_unused {
+    /// A connection that was accepted was served to its end by this protocol, and ended so, which this exit status stands for. What it was
+    /// refused at last is said now, with how it ended where that is why.
+    pub(crate) fn ended(&self, proto: Proto, status: u8, talk: Talk) {
+        let Some(peer) = self.peer else {
             return;
-        }
-        if let Some(peer) = self.peer {
-            let matter = Matter::Ended {
+        };
+        let is_unused = !self.has_read && self.trouble == Some(Trouble::Reset);
+        let matter = match self.last {
+            Some(Refused { code, reason }) => Matter::RequestRefused {
+                code,
+                reason,
+                end: if explains(talk) { Some(talk) } else { None },
+            },
+            None if status == 0 || self.is_said || is_unused => return,
+            None => Matter::Ended {
                 proto,
                 status,
-                shortage,
+                talk,
                 trouble: self.trouble,
-            };
-            self.reports.sender(self.rt, peer, matter);
-        }
+            },
+        };
+        self.reports.sender(self.rt, peer, matter);
     }
 
     /// A connection that was dialed at this place was hung up.

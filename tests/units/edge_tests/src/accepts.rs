@@ -4,6 +4,7 @@ use crate::sockets::free_place;
 use crate::staged::Staged;
 use edge_io::{Door, Monitor, Net, Pause, Proto};
 use edge_net::{Reports, TcpNet, Waits, next_connection};
+use event_form::Talk;
 use std::alloc::Global;
 use std::cell::Cell;
 use std::io;
@@ -169,7 +170,7 @@ fn places_in_use_are_reported_each_minute(
     let mut door = doors.pop().expect(rt, "two doors");
     let _ = staged.take_lines(rt);
     let first = net.dial(place.as_str()).expect(rt, "a port that listens");
-    let far = door.accept().expect(rt, "a connection waits");
+    let far = door.accept(0).expect(rt, "a connection waits");
     let far = far.expect(rt, "no door is shut");
     // (the other door has not begun)
     let _ = staged.take_lines(rt);
@@ -177,7 +178,7 @@ fn places_in_use_are_reported_each_minute(
     assert_busy(rt, staged, &place, false);
     let second = net.dial(place.as_str()).expect(rt, "a port that listens");
     let mut other = doors.pop().expect(rt, "two doors");
-    assert!(rt; matches!(other.accept(), Ok(Some(_))));
+    assert!(rt; matches!(other.accept(1), Ok(Some(_))));
     assert_busy(rt, staged, &place, true);
     net.pause();
     assert_busy(rt, staged, &place, false);
@@ -198,7 +199,7 @@ fn places_in_use_are_reported_each_minute(
         .count();
     assert!(rt; busy == 1, "{lines:?}");
     net.hang_up(first);
-    assert!(rt; door.give_back(far, Proto::Relp, 0, 0, None).is_ok());
+    assert!(rt; door.give_back(far, Proto::Relp, 0, 0, Talk::Ended).is_ok());
     staged.pass(MINUTE + MINUTE);
     net.pause();
     monitor.tell(&NUMBERS);
@@ -222,7 +223,7 @@ fn doors_that_nobody_serves_are_reported(
     assert!(rt; staged.take_lines(rt).len() == 2);
     let first = net.dial(one.as_str()).expect(rt, "a port that listens");
     let mut door = doors.pop().expect(rt, "two doors");
-    assert!(rt; matches!(door.accept(), Ok(Some(_))));
+    assert!(rt; matches!(door.accept(0), Ok(Some(_))));
     // by looks of 10 milliseconds
     assert!(rt; staged.take_sleeps(rt).as_slice() == [10; 300].as_slice());
     let lines = staged.take_lines(rt);

@@ -9,7 +9,11 @@ use std::time::Duration;
 fn topic(peer: u8, code: u16) -> Topic {
     Topic {
         peer: IpAddr::V4(Ipv4Addr::new(10, 0, 0, peer)),
-        matter: Matter::RequestRefused { code, reason: None },
+        matter: Matter::RequestRefused {
+            code,
+            reason: None,
+            end: None,
+        },
     }
 }
 
