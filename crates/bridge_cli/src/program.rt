@@ -24,7 +24,9 @@ fn reports_of(options: RunOptions) -> Reports {
     } else {
         Reports::new()
     };
-    let reports = reports.of_version(version_day());
+    let reports = reports
+        .of_version(version_day())
+        .with_verbose(options.is_verbose);
     match options.memory {
         Some(bytes) => reports.with_memory(bytes),
         None => reports,

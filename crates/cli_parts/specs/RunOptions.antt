@@ -4,7 +4,7 @@ use Rattle.std.specs.List.{before_first}
 use Rattle.bridge_words.specs.Values.{number_within}
 use Rattle.cli_parts.specs.declared.run_options.RunOptions.{RunOptions}
 use Rattle.cli_parts.specs.declared.run_options.Flag.{Flag}
-use Rattle.cli_parts.specs.declared.run_options.Flag.TheVariants.{Quiet, LogTime}
+use Rattle.cli_parts.specs.declared.run_options.Flag.TheVariants.{Quiet, Verbose, LogTime}
 use Rattle.cli_parts.specs.declared.run_options.WrongOption.{WrongOption}
 use Rattle.cli_parts.specs.declared.run_options.WrongOption.TheVariants.{Twice, Valued, IdleElsewhere, IdleTwice, IdleNoValue, IdleRange, MemoryElsewhere, MemoryTwice, MemoryNoValue, MemoryRange}
 
@@ -14,21 +14,24 @@ Text = List ℕ
 
 -- none is given
 abbrev pub no_options : RunOptions
-no_options = record { is_quiet = false; has_time = false; idle = None; memory = None }
+no_options = record { is_quiet = false; is_verbose = false; has_time = false; idle = None; memory = None }
 
 -- the name of an option that has no value
 abbrev pub flag_word : Flag → Text
 flag_word Quiet = codes "--quiet"
+flag_word Verbose = codes "--verbose"
 flag_word LogTime = codes "--log-time"
 
 -- whether it is given
 abbrev pub is_given : Flag → RunOptions → Bool
 is_given Quiet options = options.is_quiet
+is_given Verbose options = options.is_verbose
 is_given LogTime options = options.has_time
 
 -- these options, and that one
 abbrev pub giving : Flag → RunOptions → RunOptions
 giving Quiet options = record options { is_quiet = true }
+giving Verbose options = record options { is_verbose = true }
 giving LogTime options = record options { has_time = true }
 
 -- the name of an option: what stands before its `=`
@@ -160,8 +163,10 @@ pub record IsWrong (wrong : WrongOption) (words : List Text) : Type 0 where
 -- the text has no end of line
 abbrev pub wrong_text : WrongOption → Text
 wrong_text (Twice Quiet) = codes "--quiet: given twice"
+wrong_text (Twice Verbose) = codes "--verbose: given twice"
 wrong_text (Twice LogTime) = codes "--log-time: given twice"
 wrong_text (Valued Quiet) = codes "--quiet: takes no value"
+wrong_text (Valued Verbose) = codes "--verbose: takes no value"
 wrong_text (Valued LogTime) = codes "--log-time: takes no value"
 wrong_text IdleElsewhere = codes "--idle: an option of serve alone, 1 to 86400 seconds"
 wrong_text IdleTwice = codes "--idle: given twice; once, 1 to 86400 seconds"

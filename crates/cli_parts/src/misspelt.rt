@@ -16,30 +16,39 @@ const COMMANDS: [&str; 9] = [
 
 const NO_COMMAND: [&str; 2] = ["--help", "--version"];
 
-const OTHERS: [&str; 4] = ["--quiet", "--log-time", "--help", "--version"];
+const OTHERS: [&str; 5] = ["--quiet", "--verbose", "--log-time", "--help", "--version"];
 
-const LIST: [&str; 5] = ["--as", "--quiet", "--log-time", "--help", "--version"];
-
-const REPLAY: [&str; 6] = [
-    "--token",
-    "--ack-token",
+const LIST: [&str; 6] = [
+    "--as",
     "--quiet",
+    "--verbose",
     "--log-time",
     "--help",
     "--version",
 ];
 
-const DRAIN: [&str; 7] = [
+const REPLAY: [&str; 7] = [
+    "--token",
+    "--ack-token",
+    "--quiet",
+    "--verbose",
+    "--log-time",
+    "--help",
+    "--version",
+];
+
+const DRAIN: [&str; 8] = [
     "--out-token",
     "--out-channel",
     "--polls",
     "--quiet",
+    "--verbose",
     "--log-time",
     "--help",
     "--version",
 ];
 
-const SERVE: [&str; 22] = [
+const SERVE: [&str; 23] = [
     "--relp",
     "--lumberjack",
     "--hec",
@@ -59,6 +68,7 @@ const SERVE: [&str; 22] = [
     "--idle",
     "--memory",
     "--quiet",
+    "--verbose",
     "--log-time",
     "--help",
     "--version",

@@ -18,6 +18,8 @@ use thiserror::Error;
 pub struct RunOptions {
     /// Nothing is said of the net on standard error: `--quiet`.
     pub is_quiet: bool,
+    /// It is said which number the connection of each sender has: `--verbose`.
+    pub is_verbose: bool,
     /// Lines on standard error have the time before them: `--log-time`.
     pub has_time: bool,
     /// For how many seconds a sender may be silent before its connection is closed, where that is said: 1 to 86,400, by
@@ -33,6 +35,8 @@ pub struct RunOptions {
 pub enum Flag {
     /// `--quiet`.
     Quiet,
+    /// `--verbose`.
+    Verbose,
     /// `--log-time`.
     LogTime,
 }
@@ -44,6 +48,7 @@ impl RunOptions {
     {
         match flag {
             Flag::Quiet => self.is_quiet,
+            Flag::Verbose => self.is_verbose,
             Flag::LogTime => self.has_time,
         }
     }
@@ -55,6 +60,7 @@ impl RunOptions {
         let mut options = self;
         match flag {
             Flag::Quiet => options.is_quiet = true,
+            Flag::Verbose => options.is_verbose = true,
             Flag::LogTime => options.has_time = true,
         }
         options
@@ -94,8 +100,10 @@ impl WrongOption {
     {
         match self {
             WrongOption::Twice(Flag::Quiet) => "--quiet: given twice",
+            WrongOption::Twice(Flag::Verbose) => "--verbose: given twice",
             WrongOption::Twice(Flag::LogTime) => "--log-time: given twice",
             WrongOption::Valued(Flag::Quiet) => "--quiet: takes no value",
+            WrongOption::Valued(Flag::Verbose) => "--verbose: takes no value",
             WrongOption::Valued(Flag::LogTime) => "--log-time: takes no value",
             WrongOption::IdleElsewhere => "--idle: an option of serve alone, 1 to 86400 seconds",
             WrongOption::IdleTwice => "--idle: given twice; once, 1 to 86400 seconds",
@@ -166,6 +174,8 @@ fn flag_of(name: &str) -> Option<Flag>
 {
     if name == "--quiet" {
         Some(Flag::Quiet)
+    } else if name == "--verbose" {
+        Some(Flag::Verbose)
     } else if name == "--log-time" {
         Some(Flag::LogTime)
     } else {
@@ -336,7 +346,7 @@ impl Taken {
     }
 }
 
-/// Takes the options of the run out of words, which are the name of a command and then its own words: `--quiet` and
+/// Takes the options of the run out of words, which are the name of a command and then its own words: `--quiet`, `--verbose` and
 /// `--log-time`, and with `serve` `--idle SECONDS` or `--idle=SECONDS`, and `--memory` likewise, each once at most. What is left are the
 /// other words, in their order, and all from `--` on.
 ///
@@ -349,6 +359,7 @@ pub fn take_options(alloc: Global, words: &[String]) -> Result<Taken, Untaken>
         words: Vec::new(alloc),
         options: RunOptions {
             is_quiet: false,
+            is_verbose: false,
             has_time: false,
             idle: None,
             memory: None,

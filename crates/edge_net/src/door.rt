@@ -3,6 +3,7 @@ ghost use Rattle.std.specs.Prelude.{◌≡◌};
 
 use crate::accepting::next_connection;
 use crate::roll::{Place, Roll};
+use crate::watch::Peer;
 use crate::{Reports, TcpLink, Waits};
 use edge_io::{AcceptFault, Door, Proto};
 use event_form::Talk;
@@ -110,7 +111,7 @@ impl<'a, R: Clock + Eprint> Door for TcpDoor<'a, R> {
     ///
     /// The first accept waits until all doors of the net have begun, for three seconds at most, and then reports the places
     /// of those that have not: the system refused them a thread.
-    fn accept(&mut self, _: u64) -> Result<Option<TcpLink<'a, R>>, AcceptFault> {
+    fn accept(&mut self, conn: u64) -> Result<Option<TcpLink<'a, R>>, AcceptFault> {
         if !self.has_begun {
             self.has_begun = true;
             self.shared.begin();
@@ -120,6 +121,10 @@ impl<'a, R: Clock + Eprint> Door for TcpDoor<'a, R> {
                 let (rt, reports) = (self.shared.rt, self.shared.reports);
                 let waits = self.shared.waits;
                 reports.budget().admit(rt, reports.is_quiet());
+                let peer = Peer {
+                    address: peer,
+                    conn,
+                };
                 Ok(Some(TcpLink::accepted(rt, reports, stream, peer, waits)))
             }
             Err(_) => {

@@ -4,12 +4,12 @@ ghost use Rattle.std.specs.Prelude.{◌≡◌, ◌≤◌, length, IfOk};
 use crate::budget::{Budget, Part, part_of};
 use crate::closing::close_after_peer;
 use crate::trouble::{Way, is_reset};
-use crate::watch::Watch;
+use crate::watch::{Peer, Watch};
 use crate::{Reports, Waits};
 use edge_io::{Link, Object, Proto, ReadFault, Sink, Source, WriteFault};
 use event_form::Talk;
 use std::io::{self, ErrorKind, Read, Write};
-use std::net::{SocketAddr, TcpStream};
+use std::net::TcpStream;
 use std::rt::Clock;
 use std::time::Duration;
 
@@ -91,7 +91,7 @@ impl<'a, R> TcpLink<'a, R> {
         rt: &'a R,
         reports: &'a Reports,
         stream: TcpStream,
-        peer: SocketAddr,
+        peer: Peer,
         waits: Waits,
     ) -> TcpLink<'a, R>
         ensures unfailed { IsUnfailed result }

@@ -10,6 +10,15 @@ use std::net::SocketAddr;
 use std::rt::Clock;
 use std::time::Duration;
 
+/// The peer of a connection that was accepted.
+#[derive(Clone, Copy)]
+pub(crate) struct Peer {
+    /// Its address.
+    pub(crate) address: SocketAddr,
+    /// The connection's number.
+    pub(crate) conn: u64,
+}
+
 // A refusal of a request, with its code and the number of its reason, where it has one.
 #[derive(Clone, Copy)]
 struct Refused {
@@ -23,7 +32,7 @@ pub(crate) struct Watch<'a, R> {
     rt: &'a R,
     reports: &'a Reports,
     // The peer, where the connection was accepted.
-    peer: Option<SocketAddr>,
+    peer: Option<Peer>,
     // How long a call waits for the peer.
     wait: Duration,
     has_read: bool,
@@ -42,7 +51,7 @@ impl<'a, R> Watch<'a, R> {
     pub(crate) fn of(
         rt: &'a R,
         reports: &'a Reports,
-        peer: Option<SocketAddr>,
+        peer: Option<Peer>,
         wait: Duration,
     ) -> Watch<'a, R> {
         Watch {
@@ -82,10 +91,21 @@ impl<R: Clock + Eprint> Watch<'_, R> {
         }
     }
 
+    // Bytes came. Of the first ones of a connection that was accepted it is said which number it has, where that is asked for.
+    fn note_read(&mut self) {
+        if self.has_read {
+            return;
+        }
+        self.has_read = true;
+        if let Some(Peer { address, conn }) = self.peer {
+            self.reports.begins_to_send(self.rt, address, conn);
+        }
+    }
+
     /// A read that asked for some bytes gave these. Where the connection was dialed, `place` is where.
     pub(crate) fn saw_read(&mut self, place: Option<&str>, bytes: &[u8]) {
         if !bytes.is_empty() {
-            self.has_read = true;
+            self.note_read();
         }
         let Some(place) = place else {
             return self.reports.counts().received.add_many(bytes.len() as u64);
@@ -136,7 +156,7 @@ impl<R: Clock + Eprint> Watch<'_, R> {
             }
             Answer::Frame { .. } => Matter::FrameRefused { code },
         };
-        self.reports.sender(self.rt, peer, matter);
+        self.reports.sender(self.rt, peer.address, matter);
     }
 
     /// A read or a write failed by this error.
@@ -173,7 +193,7 @@ impl<R: Clock + Eprint> Watch<'_, R> {
                 trouble: self.trouble,
             },
         };
-        self.reports.sender(self.rt, peer, matter);
+        self.reports.sender(self.rt, peer.address, matter);
     }
 
     /// A connection that was dialed at this place was hung up.

@@ -607,6 +607,35 @@ fn refusals_are_said_by_their_codes(
     assert_silence(rt, staged);
 }
 
+// The number of each connection is said at its first bytes, where that is asked for.
+fn connections_are_numbered(
+    rt: &impl Abort,
+    staged: &Staged<'_>,
+    net: &mut StagedNet<'_, '_>,
+    place: &str,
+) {
+    let mut door = bound(rt, staged, net, place);
+    let (mut near, mut far) = pair(rt, net, &mut door, place);
+    assert_silence(rt, staged);
+    pass(rt, &mut near, &mut far, "1 open 0\n");
+    let lines = staged.take_lines(rt);
+    let [line] = lines.as_slice() else {
+        panic!(rt; "one line, not {lines:?}");
+    };
+    let peer = line.strip_prefix("bridge: connection 5 is of sender 127.0.0.1:");
+    assert!(rt;
+        peer.is_some_and(|port| port.parse::<u16>().is_ok()),
+        "{line}"
+    );
+    pass(rt, &mut near, &mut far, "2 close 0\n");
+    // nor of what a receiver sends
+    pass(rt, &mut far, &mut near, "1 rsp 6 200 OK\n");
+    assert_silence(rt, staged);
+    net.hang_up(near);
+    assert!(rt; door.give_back(far, Proto::Relp, 5, 0, Talk::Ended).is_ok());
+    assert_silence(rt, staged);
+}
+
 // Nothing of all this is said where it is quiet.
 fn a_quiet_net_says_nothing(
     rt: &impl Abort,
@@ -620,6 +649,7 @@ fn a_quiet_net_says_nothing(
     // a second door that doesn't begin
     let mut door = doors.pop().expect(rt, "two doors");
     let (mut near, mut far) = pair(rt, net, &mut door, place);
+    pass(rt, &mut near, &mut far, "POST / HTTP/1.1\r\n");
     pass(rt, &mut far, &mut near, "HTTP/1.1 401 No\r\n");
     net.hang_up(near);
     assert!(rt; door.give_back(far, Proto::Hec, 0, 66, BROKEN).is_ok());
@@ -651,6 +681,9 @@ fn senders_are_said(rt: &impl Abort, alloc: Global, host: &HostRuntime, staged: 
     let reports = Reports::new();
     let mut net = TcpNet::with_waits(alloc, staged, &reports, waits());
     last_refusals_are_said_with_the_end(rt, alloc, staged, &mut net, &free_place(rt, host));
+    let reports = Reports::new().with_verbose(true);
+    let mut net = TcpNet::with_waits(alloc, staged, &reports, waits());
+    connections_are_numbered(rt, staged, &mut net, &free_place(rt, host));
 }
 
 // The receiver's side.
@@ -679,7 +712,7 @@ pub(crate) fn the_net_says_what_befalls_it(rt: &impl Abort, alloc: Global, host:
     a_monitor_is_said(rt, &staged, &mut net, &free_place(rt, host));
     senders_are_said(rt, alloc, host, &staged);
     receivers_are_said(rt, alloc, host, &staged);
-    let quiet = Reports::quiet();
+    let quiet = Reports::quiet().with_verbose(true);
     let mut net = TcpNet::with_waits(alloc, &staged, &quiet, waits());
     a_quiet_net_says_nothing(rt, &staged, &mut net, &free_place(rt, host));
 }
