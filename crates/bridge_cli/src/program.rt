@@ -24,7 +24,9 @@ fn reports_of(options: RunOptions) -> Reports {
     } else {
         Reports::new()
     };
-    let reports = reports.of_version(version_day());
+    let reports = reports
+        .of_version(version_day())
+        .with_verbose(options.is_verbose);
     match options.memory {
         Some(bytes) => reports.with_memory(bytes),
         None => reports,
@@ -142,7 +144,7 @@ fn run_taken<R: Threads + Wait + Sync + Copy + Send + 'static>(
     options: RunOptions,
 ) -> Ending {
     let alloc = rt.alloc();
-    let Ok(errors) = Arc::new(alloc, StandardError::new(rt)) else {
+    let Ok(errors) = Arc::new(alloc, StandardError::new(rt, options.has_time)) else {
         print_note(rt, Note::NoMemory);
         return Ending::Noted(Note::NoMemory);
     };
