@@ -297,7 +297,7 @@ refilled old new f same q is enough =
 -- contracts see the same
 pub refilled_window : (old new : Held) → new ≡ record old { queue = new.queue; bytes = new.bytes; joined = new.joined } → new.queue.items ≡ old.queue.items → new.bytes.items ≡ old.bytes.items → window_of new ≡ window_of old
 refilled_window old new same q is = ap window_of same ∙ (λ i. record {
-      reading = record { waiting = items_in (q i) (slice_range (is i) old.from old.whole); at = old.at; begun = old.begun; stage = old.stage; body = drop old.whole (is i); read = old.read; unread = old.unread.items; fault = old.fault };
-      heads = old.heads + old.size;
-      beside = old.beside;
-    })
+  reading = record { waiting = items_in (q i) (slice_range (is i) old.from old.whole); at = old.at; begun = old.begun; stage = old.stage; body = drop old.whole (is i); read = old.read; unread = old.unread.items; fault = old.fault };
+  heads = old.heads + old.size;
+  beside = old.beside;
+})
