@@ -44,13 +44,13 @@ pub fn print_note(rt: &(impl AllocGlobal + Eprint), note: Note) {
     }
 }
 
-// Prints which numbers are missing between the sound slots.
+// Prints which numbers are missing between the slots.
 fn print_gap(rt: &impl Eprint, gap: Span) {
     let (first, last) = (gap.from, gap.to.saturating_sub(1));
     let _ = if first == last {
-        eprintln!(rt; "bridge: entry {first}: in no slot that is sound")
+        eprintln!(rt; "bridge: entry {first}: missing")
     } else {
-        eprintln!(rt; "bridge: entries {first} to {last}: in no slot that is sound")
+        eprintln!(rt; "bridge: entries {first} to {last}: missing")
     };
 }
 

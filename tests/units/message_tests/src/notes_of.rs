@@ -386,7 +386,14 @@ pub fn faults_of_loads(rt: &impl Abort, alloc: Global) {
 pub fn faults_of_slots(rt: &impl Abort, alloc: Global) {
     for (why, text) in [
         (Unsoundness::Cut, "slot 5: FILE ends at byte 16401"),
-        (Unsoundness::Broken, "slot 5: no whole group at byte 16401"),
+        (
+            Unsoundness::Broken { before: 7 },
+            "slot 5: no whole group at byte 16401; entries before it: 7",
+        ),
+        (
+            Unsoundness::Unheld,
+            "slot 5: no whole group at byte 16401; no memory for the entries before it",
+        ),
         (
             Unsoundness::TooHigh,
             "slot 5: numbers above 2^63 at byte 16401",
