@@ -1,5 +1,5 @@
 -- How a rescue ends.
-use Rattle.std.proofs.Common.{◌≡◌, ◌≢◌, ◌⊎◌, inl, inr, ℕ, ◌+◌, List, [], length, refl, sym, ◌∙◌, ap, subst}
+use Rattle.std.proofs.Common.{◌≡◌, ◌≢◌, ◌⊎◌, inl, inr, ℕ, ◌+◌, List, length, refl, sym, ◌∙◌, ap, subst}
 use Rattle.std.specs.Prelude.{Some, Result, Ok, Err, IsErrOf}
 use Rattle.std.specs.Result.{IsErrAnd}
 use Rattle.edge_disk.specs.Calls.{Calls}
@@ -18,7 +18,7 @@ use Rattle.bridge_rescue.specs.declared.gaps.Span.{Span}
 use Rattle.bridge_rescue.specs.declared.rescued.Report.{Report}
 use Rattle.bridge_rescue.specs.Layout.{IsHeaderNote}
 use Rattle.bridge_rescue.specs.Faults.{HasUnread, IsVerdict, broken_in}
-use Rattle.bridge_rescue.specs.Gaps.{gaps_in, spans_in, spans_of}
+use Rattle.bridge_rescue.specs.Gaps.{gaps_in, spans_of}
 use Rattle.bridge_rescue.specs.Slots.{AreJudged}
 use Rattle.bridge_rescue.specs.Lines.{IsLineNote, IsPrintNote}
 use Rattle.bridge_rescue.specs.Looking.{AreKnown, note_of_scan}

@@ -1,11 +1,11 @@
 -- The groups before a gate at fault, in memory.
-use Rattle.std.proofs.Common.{◌≡◌, ◌≢◌, ℕ, zero, suc, ◌+◌, ◌-◌, ◌^◌, ◌<◌, ◌≤◌, List, [], ◌∷◌, ◌++◌, length, get_or, take, drop, refl, sym, ◌∙◌, ap, subst, arith, length-append}
-use Rattle.std.specs.Prelude.{min, All, Bool, true, false}
+use Rattle.std.proofs.Common.{◌≡◌, ℕ, zero, suc, ◌+◌, ◌-◌, ◌^◌, ◌<◌, ◌≤◌, List, [], ◌∷◌, ◌++◌, length, get_or, take, drop, refl, sym, ◌∙◌, ap, subst, arith, length-append}
+use Rattle.std.specs.Prelude.{min, Bool, true, false}
 use Rattle.std.proofs.lemmas.List.{take_at, take_all, take-take, length-replicate, append-nil}
 use Rattle.foundation.specs.Bytes.{part}
 use Rattle.foundation.proofs.Bytes.{length-part}
 use Rattle.event_form.specs.declared.event.Entry.{Entry}
-use Rattle.spool_state.specs.Segment.{IsGroup, Segment, groups_text, segment_text, head_text}
+use Rattle.spool_state.specs.Segment.{Segment, groups_text, segment_text, head_text}
 use Rattle.spool_state.specs.Image.{HoldsSegment}
 use Rattle.spool_state.specs.Broken.{BreaksAt}
 use Rattle.spool_state.proofs.Once.{found_first}
@@ -14,7 +14,6 @@ use Rattle.edge_disk.specs.Calls.{Calls}
 use Rattle.spool_slots.specs.declared.slot.Slot.{Slot}
 use Rattle.spool_slots.specs.Slot.{Knows}
 use Rattle.bridge_rescue.specs.declared.found.Found.{Found}
-use Rattle.bridge_rescue.specs.Faults.{BreaksAfter}
 use Rattle.bridge_rescue.specs.Held.{held_size, held_front, zeros, still}
 use Rattle.bridge_rescue.specs.Looking.{Stands, KnowsFound, IsFrontOf, IsSameBut, front}
 

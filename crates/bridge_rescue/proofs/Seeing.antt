@@ -6,7 +6,6 @@ use Rattle.spool_state.specs.Image.{slot_at, HoldsSegment}
 use Rattle.spool_state.specs.Broken.{BreaksAt}
 use Rattle.spool_slots.specs.declared.slot.Slot.{Slot}
 use Rattle.spool_slots.specs.Scan.{KnowsSome}
-use Rattle.bridge_rescue.specs.declared.fault.Why.{Why}
 use Rattle.bridge_rescue.specs.declared.fault.Why.TheVariants.{Cut, Broken, Unheld, TooHigh, Unread}
 use Rattle.bridge_rescue.specs.declared.looking.Seen.{Seen}
 use Rattle.bridge_rescue.specs.declared.looking.Seen.TheVariants.{Closed, Sound, Front, AtFault}

@@ -1,4 +1,4 @@
-use Rattle.std.proofs.Common.{ℕ, List, inl, inr, ap, refl, sym, ◌∙◌, subst, arith}
+use Rattle.std.proofs.Common.{ℕ, List, inl, inr, ap, refl, sym, ◌∙◌, subst}
 use Rattle.std.specs.Prelude.{Some}
 use Rattle.edge_disk.proofs.Moments.{untouched_then}
 use Rattle.conn_serve.proofs.Faults.{counts_as}
