@@ -170,10 +170,10 @@ some_none : (x : Refused) → Some x ≡ None → ⊥
 some_none x e = cc
 
 pub gives_held : (tokens : Tokens) (o new : Intake) (asked : Asked) → IsOpen o.window o.refused → GivesAsked tokens o.window (Some asked) new.window → new.refused ≡ o.refused → GivesKept tokens o (Some asked) new
-gives_held tokens o new asked going (i, g, asks) refused = λ v kept. go o.refused refl going kept
+gives_held tokens o new asked going (i, g, asks) refused = λ v kept. go o.refused refl going v kept
   where
-    go : (r : Option Refused) → o.refused ≡ r → IsOpen o.window r → {v : Window} → IsKept o.window o.refused v → GivesOne tokens v asked new
-    go None e going {v} kept =
+    go : (r : Option Refused) → o.refused ≡ r → IsOpen o.window r → (v : Window) → IsKept o.window o.refused v → GivesOne tokens v asked new
+    go None e going v kept =
         let is : v ≡ o.window = subst (λ (y : Option Refused). IsKept o.window y v) e kept in
         record {
           item = i;
@@ -183,7 +183,7 @@ gives_held tokens o new asked going (i, g, asks) refused = λ v kept. go o.refus
           gives = subst (λ (y : Window). GivesItem y i new.window) (sym is) g;
           asks = asks;
         }
-    go (Some x) e (going, clear) {v} kept = let none : i ∷ new.window.reading.waiting ≡ [] = sym g.first ∙ ap (λ (r : Reading). r.waiting) clear.0 in absurd (cc)
+    go (Some x) e (going, clear) v kept = let none : i ∷ new.window.reading.waiting ≡ [] = sym g.first ∙ ap (λ (r : Reading). r.waiting) clear.0 in absurd (cc)
 
 -- none waits, and nothing is judged
 pub stays_read : (tokens : Tokens) (o new : Intake) → IsSound tokens o.window o.refused → new.window ≡ o.window → new.refused ≡ o.refused → GivesKept tokens o None new

@@ -91,7 +91,7 @@ pub returns-clause-idle : goal.returns-clause-idle
 returns-clause-idle g c =
     let l = c.loop-asked in
     let left = subst (λ (next : Option Asked). IfNone next (IsLeft c.next_asked.new.self)) c.in_default.is c.in_ok-asked.ensures.left in
-    record { none = left.none; space = left.space; going = left.going; found = λ e. c.in_default-is_starved (l.invariant.same_met) e }
+    record { none = left.none; space = left.space; going = left.going; found = λ e. let starved = c.is_starved.ensures.1 (sym l.invariant.same_met ∙ e) in let fed = c.if-is_starved.false in cc }
 
 pub returns-then-is_starved : goal.returns-then-is_starved
 returns-then-is_starved g c =
