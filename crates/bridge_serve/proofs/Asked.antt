@@ -1,5 +1,5 @@
 -- From what the words let be told to what is asked of the run: those who ask are told the spool's numbers.
-use Rattle.std.proofs.Common.{◌≡◌, ℕ, ◌+◌, ◌-◌, ◌≤◌, ◌∙◌, length, sym, ap}
+use Rattle.std.proofs.Common.{◌≡◌, ℕ, ◌-◌, ◌≤◌, ◌∙◌, sym, ap}
 use Rattle.std.specs.Prelude.{Bool}
 use Rattle.edge_disk.specs.declared.disk.Disk.{Ghosts}
 use Rattle.edge_io.specs.declared.monitor.EventCounts.{EventCounts}
@@ -8,13 +8,13 @@ use Rattle.spool_state.specs.Layout.{slot_loss}
 use Rattle.spool_state.specs.SpoolState.{SpoolState}
 use Rattle.spool_log.specs.declared.memory.Memory.{Memory}
 use Rattle.spool_log.specs.State.{View, view, IsIn}
-use Rattle.spool_log.proofs.Changes.Lowest.{length-knows}
 use Rattle.desk_access.specs.Division.{DividedRun}
 use Rattle.desk_access.specs.Desk.{DeskState, Stood}
 use Rattle.desk_access.proofs.Steps.{goes_later}
 use Rattle.spool_desk.proofs.Leading.{standing_known}
 use Rattle.spool_turns.specs.declared.level.Level.{Level}
 use Rattle.spool_turns.specs.Levels.{level_in, HasLevel}
+use Rattle.spool_turns.proofs.Levels.{known_free}
 use Rattle.spool_turns.specs.Passes.{Beginning, begun}
 use Rattle.serve_desk.specs.Telling.{numbers_of, MayTell as MayTellLevels}
 use Rattle.bridge_serve.specs.Numbers.{numbers_in, AreNumbers, MayTell}
@@ -27,7 +27,7 @@ known_numbers : (run : ℕ) (s : SpoolState) (doubt : _) (v : View) (stored : Ev
 known_numbers run s doubt v stored held same =
     let standing = standing_known s doubt v held in
     let knows = held.knows in
-    let older = length-knows s.size s.older v.memory.older.items knows.older in
+    let free = known_free s v.memory knows in
     λ i. record {
       run = same i;
       end = (standing i).end;
@@ -35,7 +35,7 @@ known_numbers run s doubt v stored held same =
       known_count = (standing i).known_count;
       room = (standing i).room;
       slots = knows.slots i;
-      free_slots = knows.slots i - (older i + 1);
+      free_slots = free i;
       most = knows.size i - slot_loss;
       stored = stored;
     }

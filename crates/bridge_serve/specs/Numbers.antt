@@ -1,11 +1,12 @@
 -- What those may be told who ask for the numbers of the spool.
-use Rattle.std.specs.Prelude.{◌≡◌, ℕ, ◌+◌, ◌-◌, List, length}
+use Rattle.std.specs.Prelude.{◌≡◌, ℕ, List}
 use Rattle.known_numbers.specs.Numbers.{count_of}
 use Rattle.edge_disk.specs.Disk.{Moment}
 use Rattle.edge_io.specs.declared.monitor.EventCounts.{EventCounts}
 use Rattle.edge_io.specs.declared.monitor.SpoolNumbers.{SpoolNumbers}
 use Rattle.spool_state.specs.SpoolState.{SpoolState, end, room, most_room}
 use Rattle.desk_access.specs.Call.{Record}
+use Rattle.spool_turns.specs.Levels.{free_slots_in}
 use Rattle.bridge_serve.specs.Answered.{HasLed}
 
 -- the numbers of a spool in this state, of which the server's run has stored these events
@@ -17,7 +18,7 @@ numbers_in s stored = record {
   known_count = count_of s.known;
   room = room s;
   slots = s.slots;
-  free_slots = s.slots - (length s.older + 1);
+  free_slots = free_slots_in s;
   most = most_room s;
   stored = stored;
 }

@@ -1,6 +1,7 @@
 //! What holds of the stages of a change, and of the calls of a desk's only caller. The functions do nothing: each has a law as its contract.
 ghost use Rattle.spool_desk.specs.Alone.{alone_at};
 ghost use Rattle.desk_laws.specs.Alone.{ImageIsKept, ImageWas, ToldWasOwn};
+ghost use Rattle.desk_laws.specs.FreeSlots.{FreeSlotsAreFree};
 ghost use Rattle.desk_laws.specs.Stages.{AddingStagesFollow, KnownStagesFollow};
 
 use edge_disk::Disk;
@@ -25,4 +26,10 @@ pub fn taken_lasts<D: Disk>(_before: &Alone<D>, _after: &Alone<D>)
 /// such a take.
 pub fn told_was_own()
     ensures { ToldWasOwn }
+{}
+
+/// The slots that are counted as free, where it is told how a spool stands, are those in which a take may begin a segment: the closed ones,
+/// and those of the older ones all of whose entries are below the cursor. No other slot is free.
+pub fn free_slots_are_free()
+    ensures { FreeSlotsAreFree }
 {}

@@ -6,4 +6,4 @@
 
 mod laws;
 
-pub use laws::{stages_follow, taken_lasts, told_was_own};
+pub use laws::{free_slots_are_free, stages_follow, taken_lasts, told_was_own};

@@ -1,9 +1,14 @@
 -- The level that lies beside the journal's seat.
-use Rattle.std.proofs.Common.{◌≡◌, ℕ, sym, subst}
-use Rattle.std.specs.Prelude.{None}
+use Rattle.std.proofs.Common.{◌≡◌, ℕ, suc, ◌+◌, ◌-◌, List, [], ◌∷◌, refl, sym, subst}
+use Rattle.std.specs.Prelude.{None, if◌then◌else◌, nat_le}
 use Rattle.atomic_table.specs.Table.{Me}
 use Rattle.edge_disk.specs.declared.disk.Disk.{Ghosts}
 use Rattle.hec_ids.specs.Table.{Table}
+use Rattle.spool_state.specs.SpoolState.{OpenSlot, SpoolState}
+use Rattle.spool_slots.specs.declared.slot.Slot.{Slot}
+use Rattle.spool_log.specs.declared.memory.Memory.{Memory}
+use Rattle.spool_log.specs.Knows.{Knows, KnowsSlots}
+use Rattle.spool_log.specs.Memory.{cursor_of}
 use Rattle.desk_access.specs.Division.{DividedRun}
 use Rattle.desk_access.specs.Desk.{DeskState}
 use Rattle.spool_desk.specs.declared.alone.Alone.{Alone}
@@ -12,7 +17,7 @@ use Rattle.spool_turns.specs.declared.view.Twin.{Twin}
 use Rattle.spool_turns.specs.Rules.{View}
 use Rattle.spool_turns.specs.Passes.{Beginning, facts_in}
 use Rattle.spool_turns.specs.Twins.{of_journal}
-use Rattle.spool_turns.specs.Levels.{level_in, IsLevelOf, HasLevel}
+use Rattle.spool_turns.specs.Levels.{count_held, count_held_in, free_slots_in, level_in, IsLevelOf, HasLevel}
 use Rattle.spool_turns.specs.Stands.{IsKept}
 use Rattle.spool_turns.proofs.Kept.{alone_with}
 
@@ -36,3 +41,18 @@ level_real disks start run seats began ids me twin level kept same = record {
   met = kept.met;
   level_is = level_known twin kept.desk level kept.twin_is same;
 }
+
+-- the slots that memory counts are those of the state
+known_held : (size : ℕ) (s : SpoolState) (slots : List OpenSlot) (known : List Slot) (cursor : ℕ) → KnowsSlots size slots known → cursor ≡ s.cursor
+    → count_held cursor known ≡ count_held_in s slots
+known_held size s [] [] cursor knows same = refl
+known_held size s [] (first ∷ known) cursor knows same = absurd knows
+known_held size s (slot ∷ slots) [] cursor knows same = absurd knows
+known_held size s (slot ∷ slots) (first ∷ known) cursor knows same =
+    let rest = known_held size s slots known cursor knows.1 same in
+    λ i. if nat_le (knows.0.first_is i + knows.0.count_is i) (same i) then rest i else suc (rest i)
+
+pub known_free : (s : SpoolState) (memory : Memory) → Knows s memory → (level_in memory).free_slots ≡ free_slots_in s
+known_free s memory knows =
+    let held = known_held s.size s s.older memory.older.items (cursor_of memory) knows.older knows.cursor in
+    λ i. knows.slots i - (held i + 1)
