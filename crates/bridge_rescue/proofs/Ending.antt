@@ -1,5 +1,5 @@
 -- How a rescue ends.
-use Rattle.std.proofs.Common.{◌≡◌, ◌≢◌, ◌⊎◌, inl, inr, ℕ, List, length, refl, sym, ◌∙◌, ap, subst}
+use Rattle.std.proofs.Common.{◌≡◌, ◌≢◌, ◌⊎◌, inl, inr, ℕ, List, [], length, refl, sym, ◌∙◌, ap, subst}
 use Rattle.std.specs.Prelude.{Some, Result, Ok, Err, IsErrOf}
 use Rattle.std.specs.Result.{IsErrAnd}
 use Rattle.edge_disk.specs.Calls.{Calls}
@@ -14,28 +14,37 @@ use Rattle.notes.specs.declared.note.Note.TheVariants.{Fine, NotSpool, NoMemory,
 use Rattle.bridge_parts.specs.Run.{OutputRun}
 use Rattle.bridge_rescue.specs.declared.layout.Layout.{Layout}
 use Rattle.bridge_rescue.specs.declared.fault.SlotFault.{SlotFault}
+use Rattle.bridge_rescue.specs.declared.gaps.Span.{Span}
 use Rattle.bridge_rescue.specs.declared.rescued.Report.{Report}
 use Rattle.bridge_rescue.specs.Layout.{IsHeaderNote}
-use Rattle.bridge_rescue.specs.Faults.{HasUnread, IsVerdict}
+use Rattle.bridge_rescue.specs.Faults.{HasUnread, IsGapNote, IsVerdict}
+use Rattle.bridge_rescue.specs.Gaps.{gaps_in, spans_in, spans_of}
 use Rattle.bridge_rescue.specs.Slots.{AreJudged}
 use Rattle.bridge_rescue.specs.Lines.{IsLineNote, IsPrintNote}
 use Rattle.bridge_rescue.specs.Looking.{AreKnown, note_of_scan}
 use Rattle.bridge_rescue.specs.RescueRun.{IsLayoutOf, IsRescueNote, Ends, RescuesBy}
+use Rattle.bridge_rescue.proofs.Gapping.{same_spans}
 use Rattle.bridge_rescue.proofs.Listed.{same_count}
 
 -- ---- notes
 
-pub verdict_known : (faults : List SlotFault) (note : Note) → IsVerdict faults note → IsRescueNote note
-verdict_known faults Fine is = tt
-verdict_known faults (NotSpool at) is = tt
-verdict_known faults DiskFault is = tt
-verdict_known faults note is = absurd is
+pub verdict_known : (faults : List SlotFault) (gaps : List Span) (note : Note) → IsVerdict faults gaps note → IsRescueNote note
+verdict_known faults gaps Fine is = tt
+verdict_known faults gaps (NotSpool at) is = tt
+verdict_known faults gaps DiskFault is = tt
+verdict_known faults gaps note is = absurd is
 
-pub verdict_unread : (faults : List SlotFault) (note : Note) → IsVerdict faults note → note ≡ DiskFault → HasUnread faults
-verdict_unread faults note is by = subst (IsVerdict faults) by is
+pub verdict_unread : (faults : List SlotFault) (gaps : List Span) (note : Note) → IsVerdict faults gaps note → note ≡ DiskFault → HasUnread faults
+verdict_unread faults gaps note is by = subst (IsVerdict faults gaps) by is
 
-pub verdict_written : (faults : List SlotFault) (note : Note) → IsVerdict faults note → note ≡ WriteFault → ⊥
-verdict_written faults note is by = subst (IsVerdict faults) by is
+pub verdict_written : (faults : List SlotFault) (gaps : List Span) (note : Note) → IsVerdict faults gaps note → note ≡ WriteFault → ⊥
+verdict_written faults gaps note is by = subst (IsVerdict faults gaps) by is
+
+-- where no slot is at fault, it is what the gaps make it
+pub verdict_gaps : (faults : List SlotFault) (gaps : List Span) (note : Note) → faults ≡ [] → (HasUnread faults → ⊥) → IsGapNote gaps note → IsVerdict faults gaps note
+verdict_gaps faults gaps Fine none read is = (none, is)
+verdict_gaps faults gaps (NotSpool at) none read is = (read, inr (none, is))
+verdict_gaps faults gaps note none read is = absurd is
 
 pub print_known : (note : Note) → IsPrintNote note → IsRescueNote note
 print_known (NotSpool at) is = tt
@@ -61,11 +70,11 @@ line_unfinished note is by = subst IsLineNote by is
 -- ---- calls of the disk
 
 module _ (faults : List SlotFault) (old mid new : Moment) (looked : Calls (HasUnread faults) old mid) where
-  pub calls_whole : (note : Note) (count : ℕ) → IsVerdict faults note → Calls (IsErrOf {T = ℕ} (Ok count) DiskFault) mid new
+  pub calls_whole : (gaps : List Span) (note : Note) (count : ℕ) → IsVerdict faults gaps note → Calls (IsErrOf {T = ℕ} (Ok count) DiskFault) mid new
       → Calls ((note ≡ DiskFault) ⊎ HasUnread faults) old new
-  calls_whole note count is printed =
+  calls_whole gaps note count is printed =
       calls_then (HasUnread faults) (IsErrOf {T = ℕ} (Ok count) DiskFault) ((note ≡ DiskFault) ⊎ HasUnread faults) old mid new looked printed
-      (λ f. elim f [ inl by ↦ inl (verdict_unread faults note is by) | inr has ↦ inl has ])
+      (λ f. elim f [ inl by ↦ inl (verdict_unread faults gaps note is by) | inr has ↦ inl has ])
       (λ none. ((λ has. none (inr has)), λ e. cc))
 
   pub calls_stopped : (note : Note) → Calls (IsErrOf {T = ℕ} (Err note) DiskFault) mid new → Calls ((note ≡ DiskFault) ⊎ HasUnread faults) old new
@@ -78,13 +87,15 @@ module _ (faults : List SlotFault) (old mid new : Moment) (looked : Calls (HasUn
 
 pub rescues_by : (layout : Layout) (c : List ℕ) (sound : List OpenSlot) (items : List Slot) (report : Report) (output : OutputRun) (note : Note)
     → AreKnown sound items c → AreJudged layout.slots layout.size c sound report.faults.items → report.slots ≡ layout.slots → report.sound ≡ length items
+    → report.gaps.items ≡ gaps_in (spans_of items)
     → Ends report (entries_in sound) output note → RescuesBy layout c (Some report) output note
-rescues_by layout c sound items report output note known judged slots_are counted ends = λ given is. record {
+rescues_by layout c sound items report output note known judged slots_are counted missing ends = λ given is. record {
   size = layout.size;
   sound = sound;
   layout = subst (λ (n : ℕ). IsLayoutOf given c n layout.size) (sym slots_are) is;
   judged = subst (λ (n : ℕ). AreJudged n layout.size c sound report.faults.items) (sym slots_are) judged;
   counted = counted ∙ same_count sound items c known;
+  missing = missing ∙ ap gaps_in (same_spans sound items c known);
   ends = ends;
 }
 

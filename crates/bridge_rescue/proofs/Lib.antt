@@ -7,3 +7,4 @@ pub mod Over
 pub mod Headers
 pub mod Seeing
 pub mod Ending
+pub mod Gapping

@@ -1,6 +1,6 @@
 -- What is wrong with the slots that aren't sound.
 use Rattle.std.specs.Prelude.{◌≡◌, ◌≢◌, ◌⊎◌, ℕ, ◌+◌, ◌<◌, List, [], ◌∷◌, length, All}
-use Rattle.spool_state.specs.Layout.{most_number}
+use Rattle.spool_state.specs.Layout.{first_slot, most_number}
 use Rattle.spool_state.specs.Segment.{IsGroup, Segment, entries_of}
 use Rattle.spool_state.specs.Image.{slot_at, HoldsSegment}
 use Rattle.spool_state.specs.Broken.{BreaksAt}
@@ -9,6 +9,7 @@ use Rattle.notes.specs.declared.note.Note.TheVariants.{Fine, NotSpool, DiskFault
 use Rattle.bridge_rescue.specs.declared.fault.Why.{Why}
 use Rattle.bridge_rescue.specs.declared.fault.Why.TheVariants.{Cut, Broken, TooHigh, Unread}
 use Rattle.bridge_rescue.specs.declared.fault.SlotFault.{SlotFault}
+use Rattle.bridge_rescue.specs.declared.gaps.Span.{Span}
 
 -- The slot holds a segment of sound groups, and the number after its last entry is above 2^63.
 pub record IsTooHigh (at size : ℕ) (c : List ℕ) : Type 0 where
@@ -38,9 +39,21 @@ abbrev pub HasUnread : List SlotFault → Type 0
 HasUnread [] = ⊥
 HasUnread (fault ∷ more) = (fault.why ≡ Unread) ⊎ HasUnread more
 
--- The note of a rescue that printed the entries of all sound slots: whether a slot was not read, or else where the first one is at fault.
-abbrev pub IsVerdict : List SlotFault → Note → Type 0
-IsVerdict faults Fine = faults ≡ []
-IsVerdict faults DiskFault = HasUnread faults
-IsVerdict faults (NotSpool at) = (HasUnread faults → ⊥) × (first : SlotFault) × (more : List SlotFault) × (faults ≡ first ∷ more) × (at ≡ first.at)
-IsVerdict faults note = ⊥
+-- where no slot is at fault: whether numbers are missing between the slots, and where these begin
+abbrev pub IsGapNote : List Span → Note → Type 0
+IsGapNote gaps Fine = gaps ≡ []
+IsGapNote gaps (NotSpool at) = (0 < length gaps) × (at ≡ first_slot)
+IsGapNote gaps note = ⊥
+
+-- the first of the slots at fault is so at this offset
+abbrev pub IsFirstFault : List SlotFault → ℕ → Type 0
+IsFirstFault [] at = ⊥
+IsFirstFault (first ∷ more) at = at ≡ first.at
+
+-- The note of a rescue that printed the entries of all sound slots: whether a slot was not read, or else where the first one is at fault,
+-- or where none is, whether numbers are missing between the slots.
+abbrev pub IsVerdict : List SlotFault → List Span → Note → Type 0
+IsVerdict faults gaps Fine = (faults ≡ []) × (gaps ≡ [])
+IsVerdict faults gaps DiskFault = HasUnread faults
+IsVerdict faults gaps (NotSpool at) = (HasUnread faults → ⊥) × (IsFirstFault faults at ⊎ ((faults ≡ []) × IsGapNote gaps (NotSpool at)))
+IsVerdict faults gaps note = ⊥

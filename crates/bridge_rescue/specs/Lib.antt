@@ -4,3 +4,4 @@ pub mod Slots
 pub mod Lines
 pub mod Looking
 pub mod RescueRun
+pub mod Gaps

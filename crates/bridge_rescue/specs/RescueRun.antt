@@ -12,6 +12,7 @@ use Rattle.bridge_rescue.specs.declared.layout.Layout.{Layout}
 use Rattle.bridge_rescue.specs.declared.rescued.Report.{Report}
 use Rattle.bridge_rescue.specs.Layout.{TellsLayout, IsUntold}
 use Rattle.bridge_rescue.specs.Faults.{HasUnread, IsVerdict}
+use Rattle.bridge_rescue.specs.Gaps.{gaps_in, spans_in}
 use Rattle.bridge_rescue.specs.Slots.{AreJudged}
 use Rattle.bridge_rescue.specs.Lines.{PrintsAll, Prints, IsPrintNote}
 
@@ -35,19 +36,21 @@ abbrev pub HasNoLayout : Option Layout → List ℕ → Note → Type 0
 HasNoLayout None c note = IsUntold note c
 HasNoLayout (Some given) c note = ⊥
 
--- All of these entries were printed, and the note is what the faults make it; or not all were, and the note says why.
+-- All of these entries were printed, and the note is what the faults and the gaps make it; or not all were, and the note says why.
 abbrev pub Ends : Report → List Entry → OutputRun → Note → Type 0
 Ends report entries output note =
-    (PrintsAll entries output.taken output.taken_after × (report.printed ≡ Some (length entries)) × IsVerdict report.faults.items note)
+    (PrintsAll entries output.taken output.taken_after × (report.printed ≡ Some (length entries)) × IsVerdict report.faults.items report.gaps.items note)
     ⊎ (Prints note entries output.taken output.taken_after × (report.printed ≡ None) × (note ≢ Fine))
 
--- The slots of the device were looked at, and so the entries of the sound ones were printed, in order of their numbers.
+-- The slots of the device were looked at, and so the entries of the sound ones were printed, in order of their numbers. What is missing
+-- between these is reported.
 pub record RescuesSlots (given : Option Layout) (c : List ℕ) (report : Report) (output : OutputRun) (note : Note) : Type 0 where
   pub size : ℕ
   pub sound : List OpenSlot
   pub layout : IsLayoutOf given c report.slots size
   pub judged : AreJudged report.slots size c sound report.faults.items
   pub counted : report.sound ≡ length sound
+  pub missing : report.gaps.items ≡ gaps_in (spans_in sound)
   pub ends : Ends report (entries_in sound) output note
 
 -- No slot was looked at, since there is no layout or no memory was found; or they were, and this is the report.

@@ -1,7 +1,9 @@
 //! Why a slot isn't sound.
 ghost use Rattle.std.specs.Prelude.{◌≡◌, ◌↔◌, IsTrue};
-ghost use Rattle.bridge_rescue.specs.Faults.{HasUnread, IsVerdict};
+ghost use Rattle.bridge_rescue.specs.Faults.{HasUnread, IsGapNote, IsVerdict};
 
+use crate::gaps::Span;
+use crate::looking::FIRST_SLOT;
 use notes::Note;
 
 /// What is wrong with a slot.
@@ -54,16 +56,27 @@ fn has_unread(faults: &[SlotFault]) -> bool
     false
 }
 
-/// The note where all entries of the sound slots were printed, and these are the other slots, but for those that are closed: `DiskFault`
-/// where one was not read; else `NotSpool`, with the offset of the first fault; `Fine` where there is none.
-pub(crate) fn verdict(faults: &[SlotFault]) -> Note
-    ensures { IsVerdict faults.now result }
+// The note where no slot is at fault, and between the slots these numbers are missing.
+fn gap_note(gaps: &[Span]) -> Note
+    ensures { IsGapNote gaps.now result }
+{
+    match gaps {
+        [_, ..] => Note::NotSpool { at: FIRST_SLOT },
+        [] => Note::Fine,
+    }
+}
+
+/// The note where all entries of the sound slots were printed, these are the other slots, but for those that are closed, and these numbers
+/// are missing between the sound ones: `DiskFault` where one was not read; else `NotSpool`, with the offset of the first fault, or that of
+/// the slots where numbers are missing and none is at fault; `Fine` where all is well.
+pub(crate) fn verdict(faults: &[SlotFault], gaps: &[Span]) -> Note
+    ensures { IsVerdict faults.now gaps.now result }
 {
     if has_unread(faults) {
         return Note::DiskFault;
     }
     match faults {
         [first, ..] => Note::NotSpool { at: first.at },
-        [] => Note::Fine,
+        [] => gap_note(gaps),
     }
 }

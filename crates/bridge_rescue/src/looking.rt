@@ -13,7 +13,7 @@ use spool_slots::{ScanFault, Slot, Window};
 use std::alloc::{AllocError, Global};
 
 /// The offset at which the first slot begins, after the header and the two cells.
-const FIRST_SLOT: u64 = 12_288;
+pub(crate) const FIRST_SLOT: u64 = 12_288;
 
 // The number after the last entry is at most this one.
 const LAST: u64 = 9_223_372_036_854_775_808;

@@ -3,6 +3,7 @@ ghost use Rattle.std.specs.Prelude.{◌≡◌};
 ghost use Rattle.notes.specs.Notes.{status_of};
 
 use crate::fault::SlotFault;
+use crate::gaps::Span;
 use notes::Note;
 
 /// What was found on a device whose slots were looked at.
@@ -14,6 +15,8 @@ pub struct Report {
     pub sound: u32,
     /// Those that are at fault, in order of place. All others are closed.
     pub faults: Vec<SlotFault>,
+    /// The numbers between the entries of the sound slots that none of these has, in order.
+    pub gaps: Vec<Span>,
     /// How many entries the sound slots have, where all of them were printed.
     pub printed: Option<u64>,
 }
@@ -21,7 +24,8 @@ pub struct Report {
 /// How a rescue ended, and the disk that it hands back.
 #[derive(Drop)]
 pub struct Rescued<D> {
-    /// The exit status of the program, by the note: 0 where each slot is sound or closed, and all entries were printed.
+    /// The exit status of the program, by the note: 0 where each slot is sound or closed, no number is missing between
+    /// the sound ones, and all entries were printed.
     pub status: u8,
     /// Why it ended.
     pub note: Note,

@@ -1,5 +1,5 @@
 //! The top call of the word `rescue`.
-ghost use Rattle.std.specs.Prelude.{◌≡◌, ℕ, List, None, IfOk, IfErr, IsErrOf};
+ghost use Rattle.std.specs.Prelude.{◌≡◌, ◌≤◌, ℕ, List, [], None, IfOk, IfErr, IsErrOf, vec_capacity};
 ghost use Rattle.edge_disk.specs.Calls.{Calls};
 ghost use Rattle.edge_disk.specs.Disk.{IsUntouched};
 ghost use Rattle.conn_serve.specs.Endings.{CountsFaults};
@@ -10,6 +10,7 @@ ghost use Rattle.bridge_rescue.specs.Looking.{HasRoom};
 ghost use Rattle.bridge_rescue.specs.RescueRun.{IsLayoutOf, IsRescueNote, FailsRead, HasNoLayout, RescuesBy, IsRescueRun};
 
 use crate::fault::verdict;
+use crate::gaps::{Span, find_gaps};
 use crate::layout::Layout;
 use crate::looking::{Looked, look_at_all};
 use crate::printing::print_slots;
@@ -20,11 +21,14 @@ use notes::Note;
 use spool_slots::Window;
 use std::alloc::{AllocError, Global};
 
-// What is reserved before a slot is read: room for what becomes of the slots, and the window through which they are read.
-fn reserve(alloc: Global, slots: u32) -> Result<(Looked, Window), AllocError>
-    ensures { IfOk result (λ reserved. HasRoom slots 0 reserved.0) }
+// What is reserved before a slot is read: room for what becomes of the slots, the window through which they are read, and room for what
+// is missing between them.
+fn reserve(alloc: Global, slots: u32) -> Result<(Looked, Window, Vec<Span>), AllocError>
+    ensures looked { IfOk result (λ reserved. HasRoom slots 0 reserved.0) }
+    ensures gaps { IfOk result (λ reserved. (slots ≤ vec_capacity reserved.2) × (reserved.2.items ≡ [])) }
 {
-    Ok((Looked::reserve(alloc, slots)?, Window::new(alloc)?))
+    let gaps = Vec::with_capacity(alloc, slots as usize)?;
+    Ok((Looked::reserve(alloc, slots)?, Window::new(alloc)?, gaps))
 }
 
 // The layout that is given, or where none is, the one that the header tells.
@@ -58,19 +62,21 @@ fn rescue_slots<D: Disk, K: Sink>(
     ensures silent { result.1 ≡ None → IsSilent (output_run K.taken K.write_faults output.old output.new) }
     ensures done { D.tells → RescuesBy layout (D.moment disk.old).reads result.1 (output_run K.taken K.write_faults output.old output.new) result.0 }
 {
-    let Ok((mut looked, mut window)) = reserve(alloc, layout.slots) else {
+    let Ok((mut looked, mut window, mut gaps)) = reserve(alloc, layout.slots) else {
         return (Note::NoMemory, None);
     };
     look_at_all(disk, &mut window, layout, &mut looked);
     let Looked { sound, faults } = looked;
     let found = sound.len() as u32;
+    find_gaps(&sound, &mut gaps);
     match print_slots(alloc, disk, &mut window, &sound, output) {
         Ok(count) => {
-            let note = verdict(&faults);
+            let note = verdict(&faults, &gaps);
             let report = Report {
                 slots: layout.slots,
                 sound: found,
                 faults,
+                gaps,
                 printed: Some(count),
             };
             (note, Some(report))
@@ -80,6 +86,7 @@ fn rescue_slots<D: Disk, K: Sink>(
                 slots: layout.slots,
                 sound: found,
                 faults,
+                gaps,
                 printed: None,
             };
             (note, Some(report))
@@ -99,8 +106,10 @@ fn rescue_slots<D: Disk, K: Sink>(
 ///
 /// The result has the disk, the report of what was found, the note that says why the run ended, and the exit status, which is the note's:
 ///
-/// - `Fine` comes where each slot is sound or closed. All entries of the sound ones were printed.
-/// - `NotSpool` with a report comes where a slot is at fault, with the first one's offset; all of the sound ones' entries were printed. With
+/// - `Fine` comes where each slot is sound or closed, and no number is missing between the entries of the sound ones, which were all
+///   printed.
+/// - `NotSpool` with a report comes where a slot is at fault, with the first one's offset, or where none is and numbers are missing between
+///   the slots, as where a slot reads as closed that was not; all of the sound ones' entries were printed. With
 ///   no report it comes where the header tells no layout, at 0 where the magic is missing and at 8 where a number is out of its range.
 /// - `WriteFault` comes exactly where a write of the output failed: not all was written.
 /// - `DiskFault` comes where a call of the disk failed. Where that was a read of a slot that was looked at, all entries of the sound slots

@@ -6,7 +6,7 @@ use crate::run_options::WrongOption;
 use crate::skip_words::{begins_skip, skip_of};
 use crate::status::Ending;
 use crate::unopened::missing_folder;
-use bridge_rescue::{Report, SlotFault, Why};
+use bridge_rescue::{Report, SlotFault, Span, Why};
 use bridge_words::{WordsFault, wrong_words};
 use edge_file::OpenFault;
 use notes::{Note, note_text};
@@ -49,6 +49,16 @@ fn print_fault(rt: &impl Eprint, fault: SlotFault) {
     };
 }
 
+// Prints which numbers are missing between the sound slots.
+fn print_gap(rt: &impl Eprint, gap: Span) {
+    let (first, last) = (gap.from, gap.to.saturating_sub(1));
+    let _ = if first == last {
+        eprintln!(rt; "bridge: entry {first}: in no slot that is sound")
+    } else {
+        eprintln!(rt; "bridge: entries {first} to {last}: in no slot that is sound")
+    };
+}
+
 // Prints how many slots are sound, and how many entries were printed.
 fn print_counts(rt: &impl Eprint, report: &Report) {
     let sound = report.sound as usize;
@@ -66,9 +76,9 @@ fn print_counts(rt: &impl Eprint, report: &Report) {
     };
 }
 
-/// Prints how the rescue of a file of this path ended that began to look at it: a line for each slot at fault, one with the note where a
-/// call failed or no memory was found, and last how many slots are sound and how many entries were printed. With no report, a line says
-/// why no slot was looked at.
+/// Prints how the rescue of a file of this path ended that began to look at it: a line for each slot at fault, one for the
+/// numbers that are missing between two slots, one with the note where a call failed or no memory was found, and last how many slots are
+/// sound and how many entries were printed. With no report, a line says why no slot was looked at.
 pub fn print_rescue(
     rt: &(impl AllocGlobal + Eprint),
     path: &str,
@@ -92,6 +102,9 @@ pub fn print_rescue(
     };
     for fault in &report.faults {
         print_fault(rt, *fault);
+    }
+    for gap in &report.gaps {
+        print_gap(rt, *gap);
     }
     if !matches!(note, Note::NotSpool { .. }) {
         print_note(rt, note);

@@ -12,10 +12,10 @@ const GROUP: usize = 1038;
 /// A device that is whole gives all, and one whose cells are gone too, since they aren't read.
 pub(crate) fn whole_slots_are_printed(rt: &impl Abort, alloc: Global) {
     let whole = rescued(rt, alloc, None, &device(rt, alloc));
-    is_as(rt, alloc, &whole, 0, b"abcdefg", 3, &[]);
+    is_as(rt, alloc, &whole, 0, b"abcdefg", 3, &[], &[]);
     let zeros = vec![in alloc; 0; 8192].expect(rt, "memory");
     let cells = rescued(rt, alloc, None, &damaged(rt, alloc, 4096, &zeros));
-    is_as(rt, alloc, &cells, 0, b"abcdefg", 3, &[]);
+    is_as(rt, alloc, &cells, 0, b"abcdefg", 3, &[], &[]);
 }
 
 /// A header that tells nothing is a fault, and given words take its place.
@@ -29,15 +29,16 @@ pub(crate) fn headers_are_replaced(rt: &impl Abort, alloc: Global) {
     let given = Layout::of(3, SIZE as u64);
     for device in [nameless, wild] {
         let all = rescued(rt, alloc, given, &device);
-        is_as(rt, alloc, &all, 0, b"abcdefg", 3, &[]);
+        is_as(rt, alloc, &all, 0, b"abcdefg", 3, &[], &[]);
     }
     let few = rescued(rt, alloc, Layout::of(2, SIZE as u64), &device(rt, alloc));
-    is_as(rt, alloc, &few, 0, b"abcdef", 2, &[]);
+    is_as(rt, alloc, &few, 0, b"abcdef", 2, &[], &[]);
     assert!(rt; Layout::of(0, 4096).is_none() && Layout::of(1025, 4096).is_none());
     assert!(rt; Layout::of(1, 4095).is_none() && Layout::of(1, 1_073_741_825).is_none());
 }
 
-/// A gate that is closed ends its slot there; one of a slot closes the slot; and a slot of zeros is closed.
+/// A gate that is closed ends its slot there; one of a slot closes the slot; and a slot of zeros is closed. What is missing then between two
+/// slots is told.
 pub(crate) fn closed_gates_end_slots(rt: &impl Abort, alloc: Global) {
     let slot = SLOTS[1];
     let group = rescued(
@@ -46,12 +47,12 @@ pub(crate) fn closed_gates_end_slots(rt: &impl Abort, alloc: Global) {
         None,
         &damaged(rt, alloc, slot + FIRST + GROUP, &[0]),
     );
-    is_as(rt, alloc, &group, 0, b"abcdg", 3, &[]);
+    is_as(rt, alloc, &group, 65, b"abcdg", 3, &[], &[(4, 6)]);
     let gate = rescued(rt, alloc, None, &damaged(rt, alloc, slot, &[0]));
-    is_as(rt, alloc, &gate, 0, b"abcg", 2, &[]);
+    is_as(rt, alloc, &gate, 65, b"abcg", 2, &[], &[(3, 6)]);
     let zeros = vec![in alloc; 0; SIZE].expect(rt, "memory");
     let none = rescued(rt, alloc, None, &damaged(rt, alloc, slot, &zeros));
-    is_as(rt, alloc, &none, 0, b"abcg", 2, &[]);
+    is_as(rt, alloc, &none, 65, b"abcg", 2, &[], &[(3, 6)]);
 }
 
 /// A group that is at fault puts its slot at fault, at the group's gate, and nothing of that slot is printed.
@@ -66,7 +67,7 @@ pub(crate) fn broken_groups_put_slots_at_fault(rt: &impl Abort, alloc: Global) {
         (34, [0, 0, 3, 231]),
     ] {
         let broken = rescued(rt, alloc, None, &damaged(rt, alloc, gate + offset, &bytes));
-        is_as(rt, alloc, &broken, 65, b"abcg", 2, &due);
+        is_as(rt, alloc, &broken, 65, b"abcg", 2, &due, &[(3, 6)]);
     }
     // A gate that is open over what isn't a group, at the end of a slot.
     let end = SLOTS[0] + FIRST + 3 * GROUP;
@@ -79,6 +80,7 @@ pub(crate) fn broken_groups_put_slots_at_fault(rt: &impl Abort, alloc: Global) {
         b"defg",
         2,
         &[(0, Why::Broken, end as u64)],
+        &[],
     );
 }
 
@@ -91,19 +93,20 @@ pub(crate) fn numbers_order_slots(rt: &impl Abort, alloc: Global) {
         None,
         &damaged(rt, alloc, first, &[0, 0, 0, 0, 0, 0, 0, 9]),
     );
-    is_as(rt, alloc, &later, 0, b"defgabc", 3, &[]);
+    is_as(rt, alloc, &later, 65, b"defgabc", 3, &[], &[(7, 9)]);
     let ordinal = rescued(rt, alloc, None, &damaged(rt, alloc, SLOTS[1] + 1, &[255]));
-    is_as(rt, alloc, &ordinal, 0, b"abcdefg", 3, &[]);
+    is_as(rt, alloc, &ordinal, 0, b"abcdefg", 3, &[], &[]);
     let high = rescued(rt, alloc, None, &damaged(rt, alloc, first, &[128]));
     let due = [(0, Why::TooHigh, SLOTS[0] as u64)];
-    is_as(rt, alloc, &high, 65, b"defg", 2, &due);
+    is_as(rt, alloc, &high, 65, b"defg", 2, &due, &[]);
 }
 
 /// A device that is cut off has the slots before that, and several faults are told in order of place.
 pub(crate) fn short_devices_have_slots(rt: &impl Abort, alloc: Global) {
     let device = device(rt, alloc);
     let cut = rescued(rt, alloc, None, &front(rt, alloc, &device, SLOTS[2] + 100));
-    is_as(rt, alloc, &cut, 65, b"abcdef", 2, &[(2, Why::Cut, 20_580)]);
+    let due = [(2, Why::Cut, 20_580)];
+    is_as(rt, alloc, &cut, 65, b"abcdef", 2, &due, &[]);
     let broken = damaged(rt, alloc, SLOTS[0] + FIRST + 1, &[255]);
     let both = rescued(rt, alloc, None, &front(rt, alloc, &broken, SLOTS[1] + 5));
     let gate = (SLOTS[0] + FIRST) as u64;
@@ -112,7 +115,7 @@ pub(crate) fn short_devices_have_slots(rt: &impl Abort, alloc: Global) {
         (1, Why::Cut, 16_389),
         (2, Why::Cut, 16_389),
     ];
-    is_as(rt, alloc, &both, 65, b"", 0, &due);
+    is_as(rt, alloc, &both, 65, b"", 0, &due, &[]);
     let tiny = rescued(rt, alloc, None, &front(rt, alloc, &device, 19));
     assert!(rt; tiny.status == 65 && tiny.report.is_none());
 }

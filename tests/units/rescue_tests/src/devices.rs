@@ -149,7 +149,11 @@ pub(crate) fn rescued(
 /// One fault of a slot that is due: its place, why, and where.
 pub(crate) type Due = (u32, Why, u64);
 
-/// The rescue ended with this status, printed the entries of these letters, and found so many sound slots and these faults.
+/// Numbers that are missing between slots: from one on, up to another.
+pub(crate) type Missing = (u64, u64);
+
+/// The rescue ended with this status, printed the entries of these letters, and found so many sound slots, these faults, and these numbers
+/// missing.
 pub(crate) fn is_as(
     rt: &impl Abort,
     alloc: Global,
@@ -158,6 +162,7 @@ pub(crate) fn is_as(
     letters: &[u8],
     sound: u32,
     faults: &[Due],
+    missing: &[Missing],
 ) {
     assert!(rt; ending.status == status);
     assert!(rt; ending.printed.as_slice() == lines(rt, alloc, letters).as_slice());
@@ -170,5 +175,9 @@ pub(crate) fn is_as(
     for (fault, due) in report.faults.iter().zip(faults) {
         let (place, why, at) = *due;
         assert!(rt; fault.place == place && fault.why == why && fault.at == at);
+    }
+    assert!(rt; report.gaps.len() == missing.len());
+    for (gap, due) in report.gaps.iter().zip(missing) {
+        assert!(rt; (gap.from, gap.to) == *due);
     }
 }

@@ -44,7 +44,8 @@ pub(crate) fn each_read_fails(rt: &impl Abort, alloc: Global) {
             assert!(rt; place < 3 && fault.why == Why::Unread);
             let left = [b"defg".as_slice(), b"abcg".as_slice(), b"abcdef".as_slice()][place];
             let due = [(fault.place, Why::Unread, SLOTS[place] as u64)];
-            is_as(rt, alloc, &ending, 73, left, 2, &due);
+            let gaps: &[(u64, u64)] = if place == 1 { &[(3, 6)] } else { &[] };
+            is_as(rt, alloc, &ending, 73, left, 2, &due, gaps);
         } else {
             // (a slot that was sound is not read again: no line was printed, since so few are held until all are made)
             assert!(rt; report.printed.is_none() && ending.printed.is_empty());

@@ -1,4 +1,4 @@
-use Rattle.std.proofs.Common.{ℕ, List, All, inl, inr, ap, refl, sym, subst, arith}
+use Rattle.std.proofs.Common.{ℕ, List, All, inl, inr, ap, refl, sym, ◌∙◌, subst, arith}
 use Rattle.std.specs.Prelude.{Some}
 use Rattle.edge_disk.proofs.Moments.{untouched_then}
 use Rattle.conn_serve.proofs.Faults.{counts_as}
@@ -6,6 +6,7 @@ use Rattle.spool_slots.specs.declared.slot.Slot.{Slot}
 use Rattle.bridge_parts.specs.Run.{output_run}
 use Rattle.bridge_rescue.specs.declared.fault.SlotFault.{SlotFault}
 use Rattle.bridge_rescue.specs.Faults.{IsVerdict}
+use Rattle.bridge_rescue.specs.Gaps.{gaps_in, spans_of}
 use Rattle.bridge_rescue.specs.Looking.{IsReadableSlot, AreKnown}
 use Rattle.bridge_rescue.proofs.Ending.{verdict_known, verdict_written, print_unfinished, calls_whole, rescues_by}
 use Rattle.bridge_rescue.proofs.top.rescue_slots.Goals as goal
@@ -20,7 +21,7 @@ print_slots-requires-clause-readable g c =
 -- all were printed
 
 pub returns-in-Ok-print_slots-clause-known : goal.returns-in-Ok-print_slots-clause-known
-returns-in-Ok-print_slots-clause-known g c = verdict_known _ _ c.verdict-note.ensures
+returns-in-Ok-print_slots-clause-known g c = verdict_known _ _ _ c.verdict-note.ensures
 
 pub returns-in-Ok-print_slots-clause-calls : goal.returns-in-Ok-print_slots-clause-calls
 returns-in-Ok-print_slots-clause-calls g c =
@@ -34,7 +35,7 @@ returns-in-Ok-print_slots-clause-told g c = λ tells.
 
 pub returns-in-Ok-print_slots-clause-writes : goal.returns-in-Ok-print_slots-clause-writes
 returns-in-Ok-print_slots-clause-writes g c =
-    counts_as _ _ _ _ (λ by. absurd (verdict_written _ _ c.verdict-note.ensures by)) (λ e. absurd (cc)) c.in-Ok-print_slots.ensures.writes
+    counts_as _ _ _ _ (λ by. absurd (verdict_written _ _ _ c.verdict-note.ensures by)) (λ e. absurd (cc)) c.in-Ok-print_slots.ensures.writes
 
 pub returns-in-Ok-print_slots-clause-done : goal.returns-in-Ok-print_slots-clause-done
 returns-in-Ok-print_slots-clause-done g c = λ tells.
@@ -47,7 +48,7 @@ returns-in-Ok-print_slots-clause-done g c = λ tells.
     let printed = c.in-Ok-print_slots.ensures.printed knows.sound tells known in
     let verdict = subst (λ (l : List SlotFault). IsVerdict l c.verdict-note.result) c.deref-in-Ok-print_slots.ensures.value c.verdict-note.ensures in
     rescues_by c.args.layout reads knows.sound looked.sound.items _ (output_run g.K.Sink.taken g.K.Sink.write_faults c.args.output.now c.print_slots.new.output) c.verdict-note.result
-    knows.known knows.judged refl (omega arith) (inl (printed.0, ap Some printed.1, verdict))
+    knows.known knows.judged refl (omega arith) (c.find_gaps.ensures ∙ ap (λ (l : List Slot). gaps_in (spans_of l)) c.deref.ensures.value) (inl (printed.0, ap Some printed.1, verdict))
 
 -- not all were
 
@@ -61,4 +62,4 @@ returns-clause-done g c = λ tells.
     (subst (AreKnown knows.sound looked.sound.items) (sym same) knows.known) in
     let printed = c.in-Err.ensures.printed knows.sound tells known in
     rescues_by c.args.layout reads knows.sound looked.sound.items _ (output_run g.K.Sink.taken g.K.Sink.write_faults c.args.output.now c.print_slots.new.output) c.in-Err.note
-    knows.known knows.judged refl (omega arith) (inr (printed, refl, print_unfinished c.in-Err.note c.in-Err.ensures.known))
+    knows.known knows.judged refl (omega arith) (c.find_gaps.ensures ∙ ap (λ (l : List Slot). gaps_in (spans_of l)) c.deref.ensures.value) (inr (printed, refl, print_unfinished c.in-Err.note c.in-Err.ensures.known))
