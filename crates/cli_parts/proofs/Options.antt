@@ -22,12 +22,17 @@ none_of f (x ∷ xs) few = absurd (omega arith)
 
 -- ---- one word, or an option with its value
 
+-- an option that has no value, with one
+pub valued : (one : Flag) (word name value : Text) → word ≡ name ++ 61 ∷ value → name ≡ flag_word one
+    → (v : Text) × (word ≡ flag_word one ++ 61 ∷ v)
+valued one word name value whole is = (value, whole ∙ ap (λ (n : Text). n ++ 61 ∷ value) is)
+
 pub next_flag : (one : Flag) (name word : Text) (more : List Text) (old new : RunOptions) (kept : List Text) → word ≡ flag_word one
     → is_given one old ≡ false → new ≡ giving one old → IsNext name (word ∷ more) more (so_far_as old kept) (so_far_as new kept)
 next_flag one name word more old new kept is unsaid given = record {
   own = flag_word one ∷ [];
   words_are = ap (λ w. w ∷ more) is;
-  goes_on = λ read was. subst (λ (o : RunOptions). IsRead name (read ++ flag_word one ∷ []) o kept) (sym given) (flag was unsaid);
+  goes_on = λ read was. subst (λ (o : RunOptions). IsRead name (read ++ flag_word one ∷ []) o kept) (sym given) (flag one was unsaid);
 }
 
 pub next_idle : (name word value : Text) (whole more : List Text) (old new : RunOptions) (kept : List Text) → whole ≡ value ∷ more

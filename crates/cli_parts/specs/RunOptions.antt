@@ -64,7 +64,7 @@ seconds_in value = number_within 1 86400 value
 -- at most, and `--idle` and `--memory` with `serve` alone; and the other words, in their order.
 pub data IsRead (name : Text) : List Text → RunOptions → List Text → Type 0 where
   named : IsRead name (name ∷ []) no_options (name ∷ [])
-  flag : {words kept : List Text} {options : RunOptions} {one : Flag} → IsRead name words options kept → is_given one options ≡ false
+  flag : {words kept : List Text} {options : RunOptions} (one : Flag) → IsRead name words options kept → is_given one options ≡ false
       → IsRead name (words ++ flag_word one ∷ []) (giving one options) kept
   idle : {words kept own : List Text} {options : RunOptions} {value : Text} {n : ℕ} → IsRead name words options kept → options.idle ≡ None
       → name ≡ codes "serve" → IsIdle own value → seconds_in value ≡ Some n

@@ -48,7 +48,11 @@ fn same_talk(one: Talk, other: Talk) -> bool
 fn same_end(one: Option<Talk>, other: Option<Talk>) -> bool
     ensures { IsTrue result ↔ (one ≡ other) }
 {
-    one == other
+    match (one, other) {
+        (Some(one), Some(other)) => same_talk(one, other),
+        (None, None) => true,
+        _ => false,
+    }
 }
 
 // Whether the same went wrong, or nothing.
