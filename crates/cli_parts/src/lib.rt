@@ -44,7 +44,7 @@ pub use memory::keep_freed;
 pub use opening::{Opening, Showing};
 pub use progress::{Progress, Watched};
 pub use report::{
-    print_beside_usage, print_beside_wrong_option, print_ending, print_line, print_no_spool,
+    print_beside_usage, print_beside_wrong_option, print_ending, print_error, print_no_spool,
     print_note, print_rescue, print_unopened,
 };
 pub use rescue_words::{RescueWords, rescue_of};

@@ -7,10 +7,11 @@ use std::{env, fs, str};
 const MOST_NAMED: usize = 41;
 
 // Lines of what goes as it should begin so.
-const INFORMS: [&str; 4] = [
+const INFORMS: [&str; 5] = [
     "bridge: listening on ",
     "bridge: bridge ",
     "bridge: run ",
+    "bridge: connection ",
     "bridge: FILE has room again",
 ];
 

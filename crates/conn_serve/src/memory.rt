@@ -11,6 +11,11 @@ const LEAST: u64 = 16_384;
 // How many bytes the smallest events take for each byte in which they come.
 const EACH: u64 = 32;
 
+/// Whether a read asks for no more than a short one.
+pub fn is_short(asked: usize) -> bool {
+    asked <= FEW
+}
+
 /// How many bytes of memory a connection takes at most where its reads ask for `asked` bytes, so many are held of it and `more` come: the
 /// `whole` that one by its protocol may take, or less where these are few.
 pub fn need_of(whole: u64, asked: usize, held: usize, more: usize) -> u64

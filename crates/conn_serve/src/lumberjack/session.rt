@@ -1,5 +1,5 @@
 //! A session of Lumberjack.
-ghost use Rattle.std.specs.Prelude.{◌≡◌, ◌==◌, if◌then◌else◌, ◌+◌, ◌<◌, ◌^◌, List, [], length, Option, None, IfOk, IfErr, OnOk, IsErrOf, false, true};
+ghost use Rattle.std.specs.Prelude.{◌≡◌, ⊥, ◌==◌, if◌then◌else◌, ◌+◌, ◌<◌, ◌^◌, List, [], length, Option, None, IfOk, IfErr, OnOk, IsErrOf, false, true};
 ghost use Rattle.lumber_frame.specs.declared.fault.LumberFault.{LumberFault as TheFault};
 ghost use Rattle.lumber_frame.specs.declared.frame.LumberFrame.{LumberFrame};
 ghost use Rattle.lumber_frame.specs.declared.limits.TheConstants.{ROOM};
@@ -21,7 +21,7 @@ ghost use Rattle.conn_serve.specs.LumberServing.{Handles};
 
 use super::act::{commit, serve_frame};
 use crate::connection::Connection;
-use crate::memory::need_of;
+use crate::memory::{is_short, need_of};
 use crate::session::Session;
 use crate::staged::Staged;
 use desk_access::Access;
@@ -130,6 +130,18 @@ impl Session for LumberSession {
             return WHOLE;
         }
         need_of(WHOLE, asked, self.window.held(), more)
+    }
+
+    fn rest(&mut self, asked: usize) {
+        if is_short(asked) {
+            self.window.give_back();
+        }
+    }
+
+    ghost passes = { λ _. ⊥ };
+
+    fn is_passing(&self) -> bool {
+        false
     }
 
     fn feed(&mut self, piece: &[u8]) -> usize {

@@ -1,5 +1,5 @@
 //! A session of RELP.
-ghost use Rattle.std.specs.Prelude.{◌≡◌, ◌+◌, ◌<◌, ◌≤◌, ◌^◌, [], length, Option, None, IfOk, IfErr, OnOk, IsErrOf, false, true};
+ghost use Rattle.std.specs.Prelude.{◌≡◌, ⊥, ◌+◌, ◌<◌, ◌≤◌, ◌^◌, [], length, Option, None, IfOk, IfErr, OnOk, IsErrOf, false, true};
 ghost use Rattle.relp_frame.specs.Reading as stream;
 ghost use Rattle.relp_frame.specs.Spelling.{IsSpelling};
 ghost use Rattle.relp_frame.specs.declared.fault.RelpFault.{RelpFault as TheFault};
@@ -22,7 +22,7 @@ use super::run::Run;
 use super::store::store_all;
 use super::texts::Texts;
 use crate::connection::Connection;
-use crate::memory::need_of;
+use crate::memory::{is_short, need_of};
 use crate::session::Session;
 use desk_access::Access;
 use edge_io::Link;
@@ -131,6 +131,18 @@ impl Session for RelpSession {
 
     fn need(&self, asked: usize, more: usize) -> u64 {
         need_of(WHOLE, asked, self.window.held(), more)
+    }
+
+    fn rest(&mut self, asked: usize) {
+        if is_short(asked) {
+            self.window.give_back();
+        }
+    }
+
+    ghost passes = { λ _. ⊥ };
+
+    fn is_passing(&self) -> bool {
+        false
     }
 
     fn feed(&mut self, piece: &[u8]) -> usize {

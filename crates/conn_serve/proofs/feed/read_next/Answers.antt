@@ -15,6 +15,7 @@ returns-in-Err g c =
       cause = rw (← kept.2) read.cause;
       same = g.L.Object.same_trans _ _ _ first.same read.same;
       apart = g.met.L.Source.read_apart_trans _ _ _ first.reads read.apart;
+      rests = c.rest.ensures;
     }
 
 pub returns : goal.returns
@@ -31,4 +32,5 @@ returns g c =
       cause = rw (← kept.2, last.2) read.cause;
       same = g.L.Object.same_trans _ _ _ (g.L.Object.same_trans _ _ _ first.same read.same) second.same;
       apart = g.met.L.Source.read_apart_trans _ _ _ (g.met.L.Source.read_apart_trans _ _ _ first.reads read.apart) second.reads;
+      rests = c.rest.ensures;
     }
