@@ -1,5 +1,5 @@
 //! A session of Lumberjack.
-ghost use Rattle.std.specs.Prelude.{◌≡◌, ⊥, ◌==◌, if◌then◌else◌, ◌+◌, ◌<◌, ◌^◌, List, [], length, Option, None, IfOk, IfErr, OnOk, IsErrOf, false, true};
+ghost use Rattle.std.specs.Prelude.{◌≡◌, ◌==◌, if◌then◌else◌, ◌+◌, ◌<◌, ◌^◌, List, [], length, Option, None, IfOk, IfErr, OnOk, IsErrOf, false, true};
 ghost use Rattle.lumber_frame.specs.declared.fault.LumberFault.{LumberFault as TheFault};
 ghost use Rattle.lumber_frame.specs.declared.frame.LumberFrame.{LumberFrame};
 ghost use Rattle.lumber_frame.specs.declared.limits.TheConstants.{ROOM};

@@ -1,5 +1,5 @@
 //! A session of RELP.
-ghost use Rattle.std.specs.Prelude.{◌≡◌, ⊥, ◌+◌, ◌<◌, ◌≤◌, ◌^◌, [], length, Option, None, IfOk, IfErr, OnOk, IsErrOf, false, true};
+ghost use Rattle.std.specs.Prelude.{◌≡◌, ◌+◌, ◌<◌, ◌≤◌, ◌^◌, [], length, Option, None, IfOk, IfErr, OnOk, IsErrOf, false, true};
 ghost use Rattle.relp_frame.specs.Reading as stream;
 ghost use Rattle.relp_frame.specs.Spelling.{IsSpelling};
 ghost use Rattle.relp_frame.specs.declared.fault.RelpFault.{RelpFault as TheFault};
