@@ -46,7 +46,9 @@ fn next_piece(group: bool, asked: usize, came: usize) -> usize
 }
 
 /// How many bytes a read brought, as the next one is fitted to it: none where it asked for many and the peer has been silent since.
-pub fn heard<L: Link>(link: &L, asked: usize, came: usize) -> usize {
+pub fn heard<L: Link>(link: &L, asked: usize, came: usize) -> usize
+    ensures { (result ≡ came) ⊎ ((8192 < asked) × (result ≡ 0)) }
+{
     if asked > PIECE && link.is_silent() {
         0
     } else {

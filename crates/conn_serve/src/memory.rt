@@ -1,5 +1,5 @@
 //! How much memory a connection takes.
-ghost use Rattle.std.specs.Prelude.{◌≡◌, ◌+◌};
+ghost use Rattle.std.specs.Prelude.{◌≡◌, ◌↔◌, ◌+◌, ◌≤◌, IsTrue};
 ghost use Rattle.conn_serve.specs.Memory.{need_of};
 
 // How many bytes a connection holds at most that takes little memory.
@@ -12,7 +12,9 @@ const LEAST: u64 = 16_384;
 const EACH: u64 = 32;
 
 /// Whether a read asks for no more than a short one.
-pub fn is_short(asked: usize) -> bool {
+pub fn is_short(asked: usize) -> bool
+    ensures { IsTrue result ↔ (asked ≤ 8192) }
+{
     asked <= FEW
 }
 

@@ -133,9 +133,10 @@ impl Session for LumberSession {
     }
 
     fn rest(&mut self, asked: usize) {
-        if is_short(asked) {
-            self.window.give_back();
+        if !is_short(asked) {
+            return;
         }
+        self.window.give_back();
     }
 
     ghost passes = { λ _. ⊥ };

@@ -134,9 +134,10 @@ impl Session for RelpSession {
     }
 
     fn rest(&mut self, asked: usize) {
-        if is_short(asked) {
-            self.window.give_back();
+        if !is_short(asked) {
+            return;
         }
+        self.window.give_back();
     }
 
     ghost passes = { λ _. ⊥ };
