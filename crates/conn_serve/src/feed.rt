@@ -1,5 +1,5 @@
 //! How a session gets the bytes of its connection.
-ghost use Rattle.std.specs.Prelude.{◌≡◌, ⊥, ◌↔◌, ◌⊎◌, ◌+◌, ◌<◌, ◌≤◌, ◌^◌, ℕ, List, ◌++◌, Option, None, length, IfOk, IfErr, OnOk, IsErrOf, IsTrue};
+ghost use Rattle.std.specs.Prelude.{◌≡◌, ◌↔◌, ◌⊎◌, ◌+◌, ◌<◌, ◌≤◌, ◌^◌, ℕ, List, ◌++◌, Option, None, length, IfOk, IfErr, OnOk, IsErrOf, IsTrue};
 ghost use Rattle.std.specs.Io.KnownBytes.{Appends, IsAtEnd, ReadConsumes, WriteAppends};
 ghost use Rattle.foundation.specs.Faults.{HasCause};
 ghost use Rattle.desk_access.specs.Endings.{IsAtMove};
