@@ -109,14 +109,14 @@ returns-in-Ok-Bad c =
     let is : c.feed.result ≡ Ok (Bad fault) = search rules in
     let passes : Passes x.past c.args.piece.now (Bad fault) p = subst (λ r. IfOk r (λ way. Passes x.past c.args.piece.now way p)) is c.feed.ensures.passes in
     let w = c.go_on-in-Ok-Bad.new.self in
-    let new : Intake = record now { window = w; refused = None } in
+    let new : Intake = record now { window = w; refused = c.take.new.self } in
     let moved = subst (λ (n : ℕ). w ≡ record now.window { reading = record now.window.reading { at = n; fault = Some fault } }) c.at.ensures c.go_on-in-Ok-Bad.ensures in
     record {
-      feeds = feeds_faulty now new x p c.args.piece.now fault e still.0 still.1 passes moved refl;
+      feeds = feeds_faulty now new x p c.args.piece.now fault e still.0 still.1 passes moved c.take.ensures.after;
       within = tt;
       some = tt;
       extent = tt;
-      faulty = extent_faulty now new x p.at (length c.args.piece.now) fault e still.0 still.1 (ap (λ (y : Past). y.at) passes.0) moved refl;
+      faulty = extent_faulty now new x p.at (length c.args.piece.now) fault e still.0 still.1 (ap (λ (y : Past). y.at) passes.0) moved c.take.ensures.after;
     }
 
 -- ---- no memory was found
