@@ -109,12 +109,12 @@ fn run<L: Link, A: Access, S: Session>(
             Err(talk) => return talk,
         };
         total += len as u64;
-        let came = heard(link, buf.len(), len);
-        let long = may_be_long(group, session);
-        fit(alloc, buf, long, came);
         if let Some(talk) = over(session, len) {
             return close(link, access, connection, session, talk);
         }
+        let came = heard(link, buf.len(), len);
+        let long = may_be_long(group, session);
+        fit(alloc, buf, long, came);
     }
     Talk::TooMuch { at: LIMIT }
 }

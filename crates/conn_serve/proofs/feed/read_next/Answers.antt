@@ -1,6 +1,3 @@
-use Rattle.std.proofs.Common.{ℕ, List, Option, Result, Ok, Err, refl, sym, subst}
-use Rattle.std.specs.Io.KnownBytes.{ReadConsumes, WriteAppends}
-use Rattle.foundation.specs.Faults.{HasCause}
 use Rattle.conn_serve.proofs.feed.read_next.Goals as goal
 
 pub returns-in-Err : goal.returns-in-Err

@@ -1,5 +1,5 @@
 use Rattle.edge_io.proofs.Known.{appends_then}
-use Rattle.std.proofs.Common.{refl, ◌++◌, ℕ, ◌∙◌, sym, subst, arith, length-take}
+use Rattle.std.proofs.Common.{◌++◌, ℕ, ◌∙◌, sym, subst, arith, length-take}
 use Rattle.conn_serve.specs.Terms.{Terms}
 use Rattle.conn_serve.specs.Done.{told}
 use Rattle.conn_serve.specs.Endings.{MayEnd}
