@@ -1,5 +1,5 @@
 -- What an intake reads of a piece past a body, what it gives, and how it judges a head.
-use Rattle.std.proofs.Common.{◌≡◌, ℕ, ◌+◌, ◌<◌, ◌≤◌, Bool, true, false, List, [], ◌∷◌, ◌++◌, Option, Some, None, length, take, refl, sym, ap, ◌∙◌, subst, arith, append_assoc, length-append, take_all}
+use Rattle.std.proofs.Common.{◌≡◌, ℕ, ◌+◌, ◌<◌, ◌≤◌, Bool, true, false, List, [], ◌∷◌, ◌++◌, Option, Some, None, length, take, refl, sym, ap, ◌∙◌, subst, arith, length-append, take_all}
 use Rattle.std.specs.Prelude.{Ok, Err, is_some, if◌then◌else◌}
 use Rattle.event_form.specs.declared.feed_fault.FeedFault.{FeedFault}
 use Rattle.event_form.specs.declared.feed_fault.FeedFault.TheVariants as feed
@@ -15,7 +15,7 @@ use Rattle.http_edge.specs.Past.{Becomes, Passes, clear_at, come_to, ended_at, f
 use Rattle.http_edge.specs.Reading as reading
 use Rattle.http_edge.specs.Reading.{Reading, come}
 use Rattle.http_edge.specs.Waits.{with_body}
-use Rattle.http_edge.specs.Window.{Reads, ReadsOn, Window, held_of}
+use Rattle.http_edge.specs.Window.{ReadsOn, Window, held_of}
 use Rattle.http_edge.specs.Window.{clear as empty}
 use Rattle.http_edge.proofs.FeedLaws.{reads_waiting}
 use Rattle.hec_session.specs.Acts.{IsRefusal}
@@ -27,7 +27,7 @@ use Rattle.conn_serve.specs.declared.hec.asked.Asked.TheVariants.{Act}
 use Rattle.conn_serve.specs.declared.hec.intake.Intake.{Intake}
 use Rattle.conn_serve.specs.declared.hec.intake.Refused.{Refused}
 use Rattle.conn_serve.specs.HecServing.{GivesAsked}
-use Rattle.conn_serve.specs.HecReading.{FeedsAs, FeedsKept, FeedsOne, GivesKept, GivesOne, HoldsBody, IsClear, IsIdle, IsKept, IsLeft, IsOpen, IsRefused, IsSound, StaysRead, extent_of, waits_of, reached_by, waiting_in, window_at}
+use Rattle.conn_serve.specs.HecReading.{FeedsAs, FeedsKept, GivesKept, GivesOne, HoldsBody, IsClear, IsIdle, IsKept, IsLeft, IsOpen, IsRefused, IsSound, extent_of, waits_of, reached_by, waiting_in, window_at}
 
 -- ---- a piece past a body
 

@@ -45,7 +45,7 @@ use Rattle.conn_serve.specs.Handled.{Handled, Served, Closing}
 use Rattle.conn_serve.specs.Hec.{hec, reply, success, AreTold, CarriesItem, EndsAtAct, IsCut, IsDone, IsRefused, SaysLast, takes_all, talk_of_issue, StopsAtItem, entries_of}
 use Rattle.conn_serve.specs.declared.hec.intake.Intake.{Intake}
 use Rattle.conn_serve.specs.declared.hec.intake.Refused.{Refused}
-use Rattle.conn_serve.specs.HecReading.{FeedsAs, HoldsBody, FeedsKept, GivesKept, IsIdle, IsKept, IsOpen, IsSound, ReadsKept, TellsRest, WasRead, extent_of}
+use Rattle.conn_serve.specs.HecReading.{FeedsAs, HoldsBody, GivesKept, IsIdle, IsKept, IsOpen, IsSound, ReadsKept, TellsRest, WasRead}
 use Rattle.conn_serve.specs.HecServing.{Carries, Halts, HaltsAtItem, IsAsked, IsSayable, IsSayableFor, ReadsBy}
 use Rattle.conn_serve.specs.Relp.{talk_of}
 use Rattle.conn_serve.specs.Says.{CouldEnd, PromisesNothing}

@@ -1,5 +1,5 @@
 -- What a piece does past the body of a request that is refused.
-use Rattle.std.proofs.Common.{rules, ◌≡◌, ◌∙◌, ◌+◌, ◌≤◌, ◌^◌, ℕ, None, Some, Ok, true, length, sym, ap, subst, refl, arith}
+use Rattle.std.proofs.Common.{rules, ◌≡◌, ◌∙◌, ◌^◌, ℕ, Some, Ok, true, length, sym, ap, subst, refl, arith}
 use Rattle.std.specs.Prelude.{IfOk}
 use Rattle.http_edge.specs.declared.past.Past.{Past}
 use Rattle.http_edge.specs.declared.past.Way.TheVariants.{Open, Whole, Bad}

@@ -1,4 +1,4 @@
-use Rattle.std.proofs.Common.{◌≡◌, length, take_all, arith}
+use Rattle.std.proofs.Common.{length, take_all, arith}
 use Rattle.conn_serve.proofs.HecSessions.{fed_ok, fed_err}
 use Rattle.conn_serve.proofs.hec.session.HecSessionSession.feed.Goals as goal
 
