@@ -28,6 +28,9 @@ use std::alloc::{AllocError, Global};
 // its reply.
 const WHOLE: u64 = 8_388_608;
 
+// How many bytes of replies keep their memory.
+const MOST_KEPT: usize = 1_024;
+
 /// The bytes as requests, the receiver with its tokens, the buffer of replies, and why no more bytes were taken.
 #[derive(Drop)]
 pub struct HecSession {
@@ -127,6 +130,8 @@ impl Session for HecSession {
         while let Some(asked) = self.intake.next_asked(alloc, &self.core)? {
             serve_item(alloc, link, access, connection, &mut self.text, asked)?;
         }
+        self.text.clear();
+        self.text.shrink_to(MOST_KEPT);
         Ok(())
     }
 
