@@ -1,5 +1,6 @@
-//! What the program does around its one call: what it was called with, which options of the run are among the words, which tokens a file of them has, how FILE is made and opened, whether a `format` of it goes on, what
-//! is shown of a command's progress and of FILE's health, the lines on standard error, the page of help, and the exit status.
+//! What the program does around its one call: what it was called with, which options of the run are among the words, which tokens a file of
+//! them has, how FILE is made and opened, whether a `format` of it goes on, what is shown of a command's progress and of FILE's health, the
+//! lines on standard error, the page of help, and the exit status.
 #![tactic(auto)]
 
 mod arguments;
