@@ -188,6 +188,10 @@ fn places_in_use_are_reported_each_minute(
         assert_busy(rt, staged, &place, true);
         net.wait_briefly();
         assert_busy(rt, staged, &place, false);
+        // (59 seconds after the line)
+        staged.pass(MINUTE - 2_000);
+        net.wait_briefly();
+        assert_busy(rt, staged, &place, false);
     }
     staged.pass(MINUTE);
     monitor.tell(&NUMBERS);
@@ -198,6 +202,9 @@ fn places_in_use_are_reported_each_minute(
         .filter(|line| line.contains("all 2 workers"))
         .count();
     assert!(rt; busy == 1, "{lines:?}");
+    monitor.tell(&NUMBERS);
+    net.pause();
+    assert_busy(rt, staged, &place, false);
     net.hang_up(first);
     assert!(rt; door.give_back(far, Proto::Relp, 0, 0, Talk::Ended).is_ok());
     staged.pass(MINUTE + MINUTE);
