@@ -83,7 +83,7 @@ const BROKEN: Talk = Talk::Fault {
 };
 
 // How a connection ends, the status of that, and what is said.
-const ENDINGS: [(Talk, u8, &str); 11] = [
+const ENDINGS: [(Talk, u8, &str); 14] = [
     (
         BROKEN,
         66,
@@ -140,6 +140,13 @@ const ENDINGS: [(Talk, u8, &str); 11] = [
         77,
         "77: the numbers of entries are spent",
     ),
+    (
+        Talk::NoMore { run: 1 },
+        77,
+        "77: the ack ids of this run are spent",
+    ),
+    (Talk::ReadFault, 71, "71: a read failed"),
+    (Talk::WriteFault, 72, "72: a write failed"),
 ];
 
 // A reply after which its connection ends, how that does, its status, and what is said of both.
