@@ -68,7 +68,7 @@ def wait_until(holds, seconds):
 
 # How the lines on standard error begin that say what befalls the net.
 OF_THE_NET = ("bridge: listening on ", "bridge: can't listen on ", "bridge: sender ", "bridge: senders at ", "bridge: senders wait ", "bridge: receiver ")
-OF_THE_NET += ("bridge: run ", "bridge: FILE has no room", "bridge: FILE has room again")
+OF_THE_NET += ("bridge: run ", "bridge: connection ", "bridge: FILE has no room", "bridge: FILE has room again")
 
 
 # How those begin or end that say what a server needs, as it begins.

@@ -1,7 +1,9 @@
 """FILE as the system keeps it, sockets whose calls fail or never answer, and a standard error that nobody reads."""
+import datetime
 import errno
 import fcntl
 import http.client
+import itertools
 import json
 import os
 import pty
@@ -380,15 +382,17 @@ def unread_end(check, program, library, folder):
 
 
 def journal(check, program, library, folder):
-    """Lines have how grave they are before them where standard error is the stream that JOURNAL_STREAM names, and else nothing."""
+    """Lines have how grave they are before them where standard error is the stream that JOURNAL_STREAM names; and else the time, with
+    --log-time, or nothing."""
     del library
-    for is_named in True, False:
+    for is_named, is_timed in itertools.product((True, False), repeat=2):
         server = serving.Server(program, folder)
         (port,) = serving.free_ports(1)
         read, write = os.pipe()
         seen = os.fstat(write)
         environment = {**os.environ, "JOURNAL_STREAM": f"{seen.st_dev}:{seen.st_ino + (not is_named)}"}
-        words = [program, server.spool, "serve", "--relp", f"127.0.0.1:{port}", "--workers", "1", "--talks", "1"]
+        words = [program, server.spool, "serve", "--relp", f"127.0.0.1:{port}", "--workers", "1", "--talks", "1", *["--log-time"] * is_timed]
+        began = time.time()
         with subprocess.Popen(words, env=environment, stdout=subprocess.DEVNULL, stderr=write) as child:
             os.close(write)
             with serving.connect(port) as link:
@@ -396,10 +400,14 @@ def journal(check, program, library, folder):
             child.wait(20)
         with os.fdopen(read, "rb") as stream:
             lines = stream.read().decode().splitlines()
+        if is_timed and not is_named:
+            stamps, lines = zip(*(line.split(" ", 1) for line in lines))
+            times = [datetime.datetime.strptime(it, "%Y-%m-%dT%H:%M:%S.%fZ").replace(tzinfo=datetime.timezone.utc) for it in stamps]
+            check("journal: the time", all(began - 1 < it.timestamp() < time.time() + 1 for it in times) and times == sorted(times), stamps)
         starts = ("bridge: bridge ", "bridge: listening on ", "bridge: sender ")
         due = [prefix * is_named + start for prefix, start in zip(("<6>", "<6>", "<4>"), starts)]
         holds = len(lines) == 3 and all(line.startswith(start) for line, start in zip(lines, due))
-        check(f"journal: {'the' if is_named else 'not the'} stream", holds, lines)
+        check(f"journal: {'the' if is_named else 'not the'} stream{', with --log-time' * is_timed}", holds, lines)
     # That FILE isn't well is an error, though its line speaks of when it will be.
     server = serving.Server(program, folder)
     (port,) = serving.free_ports(1)

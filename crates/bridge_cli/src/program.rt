@@ -6,7 +6,7 @@ use cli_files::{SystemFiles, run_rescue, run_skip};
 use cli_parts::{
     Arguments, Ending, Host, NoArguments, RunOptions, Shown, StandardError, Taken, Told, Untaken,
     answer, confirm, hold_streams, keep_freed, print_beside_usage, print_beside_wrong_option,
-    print_ending, print_line, print_note, print_start, rescue_of, skip_of, take_options,
+    print_ending, print_error, print_note, print_start, rescue_of, skip_of, take_options,
     version_day, with_bytes, with_tokens,
 };
 use edge_io::FileIo;
@@ -24,7 +24,9 @@ fn reports_of(options: RunOptions) -> Reports {
     } else {
         Reports::new()
     };
-    let reports = reports.of_version(version_day());
+    let reports = reports
+        .of_version(version_day())
+        .with_verbose(options.is_verbose);
     match options.memory {
         Some(bytes) => reports.with_memory(bytes),
         None => reports,
@@ -142,7 +144,7 @@ fn run_taken<R: Threads + Wait + Sync + Copy + Send + 'static>(
     options: RunOptions,
 ) -> Ending {
     let alloc = rt.alloc();
-    let Ok(errors) = Arc::new(alloc, StandardError::new(rt)) else {
+    let Ok(errors) = Arc::new(alloc, StandardError::new(rt, options.has_time)) else {
         print_note(rt, Note::NoMemory);
         return Ending::Noted(Note::NoMemory);
     };
@@ -223,7 +225,7 @@ pub fn run<R: Threads + Wait + Sync + Copy + Send + 'static>(
         },
         Err(NoArguments::NoText) => {
             print_note(rt, Note::Usage);
-            print_line(rt, "a word is no UTF-8");
+            print_error(rt, &NoArguments::NoText);
             Ending::Noted(Note::Usage)
         }
         Err(NoArguments::NoMemory) => {

@@ -1,12 +1,11 @@
 -- How a rescue ends.
-use Rattle.std.proofs.Common.{◌≡◌, ◌≢◌, ◌⊎◌, inl, inr, ℕ, List, [], length, refl, sym, ◌∙◌, ap, subst}
+use Rattle.std.proofs.Common.{◌≡◌, ◌≢◌, ◌⊎◌, inl, inr, ℕ, ◌+◌, List, length, refl, sym, ◌∙◌, ap, subst}
 use Rattle.std.specs.Prelude.{Some, Result, Ok, Err, IsErrOf}
 use Rattle.std.specs.Result.{IsErrAnd}
 use Rattle.edge_disk.specs.Calls.{Calls}
 use Rattle.edge_disk.specs.Disk.{Moment}
 use Rattle.edge_disk.proofs.Calls.{calls_then}
 use Rattle.spool_state.specs.SpoolState.{OpenSlot, entries_in}
-use Rattle.spool_slots.specs.declared.slot.Slot.{Slot}
 use Rattle.spool_slots.specs.declared.fault.ScanFault.{ScanFault}
 use Rattle.spool_slots.specs.declared.fault.ScanFault.TheVariants as Scan
 use Rattle.notes.specs.declared.note.Note.{Note}
@@ -14,17 +13,17 @@ use Rattle.notes.specs.declared.note.Note.TheVariants.{Fine, NotSpool, NoMemory,
 use Rattle.bridge_parts.specs.Run.{OutputRun}
 use Rattle.bridge_rescue.specs.declared.layout.Layout.{Layout}
 use Rattle.bridge_rescue.specs.declared.fault.SlotFault.{SlotFault}
+use Rattle.bridge_rescue.specs.declared.found.Found.{Found}
 use Rattle.bridge_rescue.specs.declared.gaps.Span.{Span}
 use Rattle.bridge_rescue.specs.declared.rescued.Report.{Report}
 use Rattle.bridge_rescue.specs.Layout.{IsHeaderNote}
-use Rattle.bridge_rescue.specs.Faults.{HasUnread, IsGapNote, IsVerdict}
-use Rattle.bridge_rescue.specs.Gaps.{gaps_in, spans_in, spans_of}
+use Rattle.bridge_rescue.specs.Faults.{HasUnread, IsVerdict, broken_in}
+use Rattle.bridge_rescue.specs.Gaps.{gaps_in, spans_of}
 use Rattle.bridge_rescue.specs.Slots.{AreJudged}
 use Rattle.bridge_rescue.specs.Lines.{IsLineNote, IsPrintNote}
 use Rattle.bridge_rescue.specs.Looking.{AreKnown, note_of_scan}
 use Rattle.bridge_rescue.specs.RescueRun.{IsLayoutOf, IsRescueNote, Ends, RescuesBy}
 use Rattle.bridge_rescue.proofs.Gapping.{same_spans}
-use Rattle.bridge_rescue.proofs.Listed.{same_count}
 
 -- ---- notes
 
@@ -39,12 +38,6 @@ verdict_unread faults gaps note is by = subst (IsVerdict faults gaps) by is
 
 pub verdict_written : (faults : List SlotFault) (gaps : List Span) (note : Note) → IsVerdict faults gaps note → note ≡ WriteFault → ⊥
 verdict_written faults gaps note is by = subst (IsVerdict faults gaps) by is
-
--- where no slot is at fault, it is what the gaps make it
-pub verdict_gaps : (faults : List SlotFault) (gaps : List Span) (note : Note) → faults ≡ [] → (HasUnread faults → ⊥) → IsGapNote gaps note → IsVerdict faults gaps note
-verdict_gaps faults gaps Fine none read is = (none, is)
-verdict_gaps faults gaps (NotSpool at) none read is = (read, inr (none, is))
-verdict_gaps faults gaps note none read is = absurd is
 
 pub print_known : (note : Note) → IsPrintNote note → IsRescueNote note
 print_known (NotSpool at) is = tt
@@ -85,16 +78,16 @@ module _ (faults : List SlotFault) (old mid new : Moment) (looked : Calls (HasUn
 
 -- ---- what was found and printed
 
-pub rescues_by : (layout : Layout) (c : List ℕ) (sound : List OpenSlot) (items : List Slot) (report : Report) (output : OutputRun) (note : Note)
-    → AreKnown sound items c → AreJudged layout.slots layout.size c sound report.faults.items → report.slots ≡ layout.slots → report.sound ≡ length items
+pub rescues_by : (layout : Layout) (c : List ℕ) (sound : List OpenSlot) (items : List Found) (report : Report) (output : OutputRun) (note : Note)
+    → AreKnown sound items c → AreJudged layout.slots layout.size c sound report.faults.items → report.slots ≡ layout.slots → report.sound + broken_in report.faults.items ≡ length sound
     → report.gaps.items ≡ gaps_in (spans_of items)
     → Ends report (entries_in sound) output note → RescuesBy layout c (Some report) output note
 rescues_by layout c sound items report output note known judged slots_are counted missing ends = λ given is. record {
   size = layout.size;
-  sound = sound;
+  found = sound;
   layout = subst (λ (n : ℕ). IsLayoutOf given c n layout.size) (sym slots_are) is;
   judged = subst (λ (n : ℕ). AreJudged n layout.size c sound report.faults.items) (sym slots_are) judged;
-  counted = counted ∙ same_count sound items c known;
+  counted = counted;
   missing = missing ∙ ap gaps_in (same_spans sound items c known);
   ends = ends;
 }

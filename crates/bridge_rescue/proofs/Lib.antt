@@ -8,3 +8,5 @@ pub mod Headers
 pub mod Seeing
 pub mod Ending
 pub mod Gapping
+pub mod Anys
+pub mod Fronting

@@ -2,18 +2,18 @@
 use Rattle.std.specs.Prelude.{ℕ, ◌+◌, max, if◌then◌else◌, nat_lt, List, [], ◌∷◌, ◌++◌, map}
 use Rattle.spool_state.specs.SpoolState.{OpenSlot}
 use Rattle.spool_state.specs.Order.{count_of}
-use Rattle.spool_slots.specs.declared.slot.Slot.{Slot}
+use Rattle.bridge_rescue.specs.declared.found.Found.{Found}
 use Rattle.bridge_rescue.specs.declared.gaps.Span.{Span}
 
 abbrev pub span : ℕ → ℕ → Span
 span from to = record { from = from; to = to }
 
--- the numbers of the entries of each slot, and the same by what memory has of them
+-- the numbers of the entries that were found of each slot, and the same by what memory has of them
 abbrev pub spans_in : List OpenSlot → List Span
 spans_in slots = map (λ slot. span slot.segment.first (slot.segment.first + count_of slot)) slots
 
-abbrev pub spans_of : List Slot → List Span
-spans_of slots = map (λ slot. span slot.first (slot.first + slot.count)) slots
+abbrev pub spans_of : List Found → List Span
+spans_of founds = map (λ found. span found.slot.first (found.slot.first + found.slot.count)) founds
 
 -- the numbers from one on up to another, where there are any
 abbrev pub gap_between : ℕ → ℕ → List Span

@@ -5,3 +5,4 @@ pub mod Lines
 pub mod Looking
 pub mod RescueRun
 pub mod Gaps
+pub mod Held

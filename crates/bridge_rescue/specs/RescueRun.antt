@@ -1,5 +1,5 @@
 -- What a call of `bridge_rescue` did.
-use Rattle.std.specs.Prelude.{◌≡◌, ◌≢◌, ◌⊎◌, ℕ, List, length, Option, None, Some}
+use Rattle.std.specs.Prelude.{◌≡◌, ◌≢◌, ◌⊎◌, ℕ, ◌+◌, List, length, Option, None, Some}
 use Rattle.event_form.specs.declared.event.Entry.{Entry}
 use Rattle.edge_disk.specs.Calls.{Calls}
 use Rattle.edge_disk.specs.Disk.{IsUntouched}
@@ -11,7 +11,7 @@ use Rattle.bridge_parts.specs.Run.{DiskRun, OutputRun, IsSilent}
 use Rattle.bridge_rescue.specs.declared.layout.Layout.{Layout}
 use Rattle.bridge_rescue.specs.declared.rescued.Report.{Report}
 use Rattle.bridge_rescue.specs.Layout.{TellsLayout, IsUntold}
-use Rattle.bridge_rescue.specs.Faults.{HasUnread, IsVerdict}
+use Rattle.bridge_rescue.specs.Faults.{HasUnread, IsVerdict, broken_in}
 use Rattle.bridge_rescue.specs.Gaps.{gaps_in, spans_in}
 use Rattle.bridge_rescue.specs.Slots.{AreJudged}
 use Rattle.bridge_rescue.specs.Lines.{PrintsAll, Prints, IsPrintNote}
@@ -42,16 +42,17 @@ Ends report entries output note =
     (PrintsAll entries output.taken output.taken_after × (report.printed ≡ Some (length entries)) × IsVerdict report.faults.items report.gaps.items note)
     ⊎ (Prints note entries output.taken output.taken_after × (report.printed ≡ None) × (note ≢ Fine))
 
--- The slots of the device were looked at, and so the entries of the sound ones were printed, in order of their numbers. What is missing
--- between these is reported.
+-- The slots of the device were looked at, and so the entries of the sound ones were printed, and those of the groups before the fault of each
+-- one that is broken, in order of their numbers. The report says how many are sound, and what is missing between the entries.
 pub record RescuesSlots (given : Option Layout) (c : List ℕ) (report : Report) (output : OutputRun) (note : Note) : Type 0 where
   pub size : ℕ
-  pub sound : List OpenSlot
+  pub found : List OpenSlot
   pub layout : IsLayoutOf given c report.slots size
-  pub judged : AreJudged report.slots size c sound report.faults.items
-  pub counted : report.sound ≡ length sound
-  pub missing : report.gaps.items ≡ gaps_in (spans_in sound)
-  pub ends : Ends report (entries_in sound) output note
+  pub judged : AreJudged report.slots size c found report.faults.items
+  -- each that was found and isn't broken is sound
+  pub counted : report.sound + broken_in report.faults.items ≡ length found
+  pub missing : report.gaps.items ≡ gaps_in (spans_in found)
+  pub ends : Ends report (entries_in found) output note
 
 -- No slot was looked at, since there is no layout or no memory was found; or they were, and this is the report.
 abbrev pub Rescues : Option Layout → List ℕ → Option Report → OutputRun → Note → Type 0

@@ -1,9 +1,9 @@
-//! Numbers between slots that no slot has.
+//! Numbers between slots that no slot has, as far as they were found.
 ghost use Rattle.std.specs.Prelude.{◌≡◌, ◌<◌, ◌≤◌, ◌++◌, [], All, length, vec_capacity};
 ghost use Rattle.bridge_rescue.specs.Gaps.{gap_between, gaps_in, first_from, spans_of};
 ghost use Rattle.bridge_rescue.specs.Looking.{IsReadableSlot};
 
-use spool_slots::Slot;
+use crate::found::Found;
 
 /// Some numbers, one after another.
 #[derive(Clone, Copy, PartialEq, Eq)]
@@ -15,11 +15,11 @@ pub struct Span {
 }
 
 // The number of the first entry of the first slot, or 0 where there is none.
-fn first_from(slots: &[Slot]) -> u64
-    ensures { result ≡ first_from (spans_of slots.now) }
+fn first_from(founds: &[Found]) -> u64
+    ensures { result ≡ first_from (spans_of founds.now) }
 {
-    match slots {
-        [first, ..] => first.first,
+    match founds {
+        [first, ..] => first.slot.first,
         [] => 0,
     }
 }
@@ -36,17 +36,18 @@ fn add_gap(gaps: &mut Vec<Span>, from: u64, to: u64)
     }
 }
 
-/// Finds the numbers between the first entry of the first of the slots and the last entry of all that none of them has. The slots stand in
-/// order of their first numbers.
-pub(crate) fn find_gaps(slots: &[Slot], gaps: &mut Vec<Span>)
+/// Finds the numbers between the first entry of the first of the slots and the last entry of all that none of them has, as far as they were
+/// found. The slots stand in order of their first numbers.
+pub(crate) fn find_gaps(founds: &[Found], gaps: &mut Vec<Span>)
     requires none { gaps.old.items ≡ [] }
-    requires room { length slots.now ≤ vec_capacity gaps.old }
-    requires readable { (len : _) × All (IsReadableSlot len) slots.now }
+    requires room { length founds.now ≤ vec_capacity gaps.old }
+    requires readable { (len : _) × All (λ found. IsReadableSlot len found.slot) founds.now }
 
-    ensures { gaps.new.items ≡ gaps_in (spans_of slots.now) }
+    ensures { gaps.new.items ≡ gaps_in (spans_of founds.now) }
 {
-    let mut end = first_from(slots);
-    for slot in slots {
+    let mut end = first_from(founds);
+    for found in founds {
+        let slot = found.slot;
         add_gap(gaps, end, slot.first);
         end = end.max(slot.first + slot.count);
     }

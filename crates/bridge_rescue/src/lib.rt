@@ -1,10 +1,14 @@
-//! bridge, where FILE is damaged: the word `rescue` prints the events of all slots that are sound, of a FILE that every other command
-//! refuses, and changes nothing. The one contract is that of [`bridge_rescue`], the top call of this word, as `bridge` is that of most
-//! others: which slots are sound, what is printed of them, what is at fault in the others, which numbers between them are missing, and what is answered.
+//! bridge, where FILE is damaged: the word `rescue` prints the events of all slots that are sound, and of the others what stands before
+//! their fault, of a FILE that every other command refuses, and changes nothing. The one contract is that of [`bridge_rescue`], the top call
+//! of this word, as `bridge` is that of most others: which slots are sound, what is at fault in the others and what stands before that,
+//! what is printed, which numbers between the slots are missing, and what is answered.
 #![tactic(auto)]
 
+mod before;
 mod fault;
+mod found;
 mod gaps;
+mod held;
 mod layout;
 mod lines;
 mod looking;

@@ -1,5 +1,5 @@
-//! The entries of the sound slots, printed.
-ghost use Rattle.std.specs.Prelude.{◌≡◌, ◌≤◌, ℕ, List, All, length, IfErr, IsErrOf};
+//! The entries that were found, printed.
+ghost use Rattle.std.specs.Prelude.{◌≡◌, ◌≤◌, ℕ, List, false, length, IfErr, IsErrOf};
 ghost use Rattle.spool_state.specs.Layout.{most_slots};
 ghost use Rattle.spool_state.specs.Segment.{Segment, entries_of};
 ghost use Rattle.spool_state.specs.SpoolState.{OpenSlot, entries_in};
@@ -8,8 +8,10 @@ ghost use Rattle.edge_disk.specs.Disk.{IsUntouched};
 ghost use Rattle.spool_slots.specs.Slot.{Knows};
 ghost use Rattle.conn_serve.specs.Endings.{CountsFaults};
 ghost use Rattle.bridge_rescue.specs.Lines.{GathersMore, PrintsCounted, IsPrintNote};
-ghost use Rattle.bridge_rescue.specs.Looking.{IsReadableSlot, AreKnown, note_of_scan};
+ghost use Rattle.bridge_rescue.specs.Looking.{IsReadableSlot, AreReadable, KnowsFound, AreKnown, note_of_scan};
 
+use crate::found::{Found, placed};
+use crate::held::Held;
 use crate::lines::{add_entries, write_rest};
 use edge_disk::Disk;
 use edge_io::Sink;
@@ -63,32 +65,85 @@ fn print_slot<D: Disk, K: Sink>(
     Ok(())
 }
 
-/// Prints the events of the entries of these slots, in order, and answers how many there are. The error is the note that says why not all
+// The same of what stands before the fault of a slot, which is read into memory.
+fn print_front<D: Disk, K: Sink>(
+    alloc: Global,
+    disk: &mut D,
+    window: &mut Window,
+    slot: &Slot,
+    output: &mut K,
+    lines: &mut Vec<u8>,
+) -> Result<(), Note>
+    requires prints { (k : K) (text : List ℕ) → K.permits k text }
+    requires readable { IsReadableSlot (D.moment disk.old).size slot.now }
+
+    ensures known { IfErr result IsPrintNote }
+    ensures calls { Calls (IsErrOf result Note.DiskFault) (D.moment disk.old) (D.moment disk.new) }
+    ensures told { D.tells → IsUntouched (D.moment disk.old) (D.moment disk.new) }
+    ensures writes { CountsFaults (IsErrOf result Note.WriteFault) (K.write_faults output.old) (K.write_faults output.new) }
+    ensures gathered { (segment : Segment) → D.tells → KnowsFound (record { slot = slot.now; is_whole = false }) segment (D.moment disk.old).reads
+        → GathersMore (entries_of segment) result (K.taken output.old) (K.taken output.new) lines.old.items lines.new.items }
+{
+    let mut held = match Held::read(alloc, disk, slot.at, slot.gate) {
+        Ok(held) => held,
+        Err(fault) => return Err(note_of_scan(fault)),
+    };
+    let front = placed(*slot, 0, held.len());
+    print_slot(alloc, &mut held, window, &front, output, lines)
+}
+
+// The same of what was found of a slot.
+fn print_found<D: Disk, K: Sink>(
+    alloc: Global,
+    disk: &mut D,
+    window: &mut Window,
+    found: &Found,
+    output: &mut K,
+    lines: &mut Vec<u8>,
+) -> Result<(), Note>
+    requires prints { (k : K) (text : List ℕ) → K.permits k text }
+    requires readable { IsReadableSlot (D.moment disk.old).size found.now.slot }
+
+    ensures known { IfErr result IsPrintNote }
+    ensures calls { Calls (IsErrOf result Note.DiskFault) (D.moment disk.old) (D.moment disk.new) }
+    ensures told { D.tells → IsUntouched (D.moment disk.old) (D.moment disk.new) }
+    ensures writes { CountsFaults (IsErrOf result Note.WriteFault) (K.write_faults output.old) (K.write_faults output.new) }
+    ensures gathered { (segment : Segment) → D.tells → KnowsFound found.now segment (D.moment disk.old).reads
+        → GathersMore (entries_of segment) result (K.taken output.old) (K.taken output.new) lines.old.items lines.new.items }
+{
+    if found.is_whole {
+        print_slot(alloc, disk, window, &found.slot, output, lines)
+    } else {
+        print_front(alloc, disk, window, &found.slot, output, lines)
+    }
+}
+
+/// Prints the events of the entries that were found of these slots, in order, and answers how many there are. The error is the note that says why not all
 /// were printed: `WriteFault` exactly where a write failed, `DiskFault` exactly where a call of the disk did, `NoMemory`, or `NotSpool` where
 /// a slot is another one than it was.
 pub(crate) fn print_slots<D: Disk, K: Sink>(
     alloc: Global,
     disk: &mut D,
     window: &mut Window,
-    slots: &[Slot],
+    founds: &[Found],
     output: &mut K,
 ) -> Result<u64, Note>
     requires prints { (k : K) (text : List ℕ) → K.permits k text }
-    requires few { length slots.now ≤ most_slots }
-    requires readable { All (IsReadableSlot (D.moment disk.old).size) slots.now }
+    requires few { length founds.now ≤ most_slots }
+    requires readable { AreReadable (D.moment disk.old).size founds.now }
 
     ensures known { IfErr result IsPrintNote }
     ensures calls { Calls (IsErrOf result Note.DiskFault) (D.moment disk.old) (D.moment disk.new) }
     ensures told { D.tells → IsUntouched (D.moment disk.old) (D.moment disk.new) }
     ensures writes { CountsFaults (IsErrOf result Note.WriteFault) (K.write_faults output.old) (K.write_faults output.new) }
-    ensures printed { (sound : List OpenSlot) → D.tells → AreKnown sound slots.now (D.moment disk.old).reads
-        → PrintsCounted (entries_in sound) result (K.taken output.old) (K.taken output.new) }
+    ensures printed { (slots : List OpenSlot) → D.tells → AreKnown slots founds.now (D.moment disk.old).reads
+        → PrintsCounted (entries_in slots) result (K.taken output.old) (K.taken output.new) }
 {
     let mut lines = Vec::new(alloc);
     let mut count = 0;
-    for slot in slots {
-        print_slot(alloc, disk, window, slot, output, &mut lines)?;
-        count += slot.count;
+    for found in founds {
+        print_found(alloc, disk, window, found, output, &mut lines)?;
+        count += found.slot.count;
     }
     write_rest(output, &lines)?;
     Ok(count)

@@ -15,9 +15,10 @@ pub struct Report {
     pub sound: u32,
     /// Those that are at fault, in order of place. All others are closed.
     pub faults: Vec<SlotFault>,
-    /// The numbers between the entries of the sound slots that none of these has, in order.
+    /// The numbers between the entries that were found that none of these has, in order.
     pub gaps: Vec<Span>,
-    /// How many entries the sound slots have, where all of them were printed.
+    /// How many entries were found, where all of them were printed: those of the sound slots, and those before the fault of each slot
+    /// that is broken.
     pub printed: Option<u64>,
 }
 
@@ -25,7 +26,7 @@ pub struct Report {
 #[derive(Drop)]
 pub struct Rescued<D> {
     /// The exit status of the program, by the note: 0 where each slot is sound or closed, no number is missing between
-    /// the sound ones, and all entries were printed.
+    /// them, and all entries were printed.
     pub status: u8,
     /// Why it ended.
     pub note: Note,

@@ -45,8 +45,8 @@ fn layout_of<D: Disk>(given: Option<Layout>, disk: &mut D) -> Result<Layout, Not
     }
 }
 
-// Looks at the slots of a device of this layout, prints the entries of those that are sound, and answers why that ended and what was
-// found, where the slots were looked at.
+// Looks at the slots of a device of this layout, prints the entries that were found, and answers why that ended and what was found, where
+// the slots were looked at.
 fn rescue_slots<D: Disk, K: Sink>(
     alloc: Global,
     layout: Layout,
@@ -65,16 +65,19 @@ fn rescue_slots<D: Disk, K: Sink>(
     let Ok((mut looked, mut window, mut gaps)) = reserve(alloc, layout.slots) else {
         return (Note::NoMemory, None);
     };
-    look_at_all(disk, &mut window, layout, &mut looked);
-    let Looked { sound, faults } = looked;
-    let found = sound.len() as u32;
-    find_gaps(&sound, &mut gaps);
-    match print_slots(alloc, disk, &mut window, &sound, output) {
+    look_at_all(alloc, disk, &mut window, layout, &mut looked);
+    let Looked {
+        found,
+        faults,
+        sound,
+    } = looked;
+    find_gaps(&found, &mut gaps);
+    match print_slots(alloc, disk, &mut window, &found, output) {
         Ok(count) => {
             let note = verdict(&faults, &gaps);
             let report = Report {
                 slots: layout.slots,
-                sound: found,
+                sound,
                 faults,
                 gaps,
                 printed: Some(count),
@@ -84,7 +87,7 @@ fn rescue_slots<D: Disk, K: Sink>(
         Err(note) => {
             let report = Report {
                 slots: layout.slots,
-                sound: found,
+                sound,
                 faults,
                 gaps,
                 printed: None,
@@ -94,25 +97,25 @@ fn rescue_slots<D: Disk, K: Sink>(
     }
 }
 
-/// Does what the word `rescue` asks for: prints the event of each entry of each sound slot as a JSON object and LF, as
-/// `list --as json` prints it, in order of the slots' first numbers. The register isn't read, so entries that are known as confirmed are
-/// printed too, where they stand in a slot still.
+/// Does what the word `rescue` asks for: prints the event of each entry of each sound slot, and of each entry that stands before the fault of
+/// a broken one, as a JSON object and LF, as `list --as json` prints it, in order of the slots' first numbers. The register isn't read, so
+/// entries that are known as confirmed are printed too, where they stand in a slot still.
 ///
 /// Each slot is looked at by itself. It is sound where it stands whole on the device, its gate is open, each of its groups is whole, and
-/// the number after its last entry is at most 2^63; of a slot that isn't nothing is printed. Where the slots lie is told by `given`, or where
-/// that is nothing by the header. The device may be shorter than its slots.
+/// the number after its last entry is at most 2^63. Where a group isn't whole the slot is broken, and what stands before that group is printed;
+/// of any other slot that isn't sound nothing is. Where the slots lie is told by `given`, or where that is nothing by the header. The device
+/// may be shorter than its slots.
 ///
 /// **Nothing is written to the disk**, at no moment: no leave to write is asked for.
 ///
 /// The result has the disk, the report of what was found, the note that says why the run ended, and the exit status, which is the note's:
 ///
-/// - `Fine` comes where each slot is sound or closed, and no number is missing between the entries of the sound ones, which were all
-///   printed.
+/// - `Fine` comes where each slot is sound or closed, and no number is missing between their entries, which were all printed.
 /// - `NotSpool` with a report comes where a slot is at fault, with the first one's offset, or where none is and numbers are missing between
-///   the slots, as where a slot reads as closed that was not; all of the sound ones' entries were printed. With
-///   no report it comes where the header tells no layout, at 0 where the magic is missing and at 8 where a number is out of its range.
+///   the slots, as where a slot reads as closed that was not; all entries that were found were printed. With no report it comes where the
+///   header tells no layout, at 0 where the magic is missing and at 8 where a number is out of its range.
 /// - `WriteFault` comes exactly where a write of the output failed: not all was written.
-/// - `DiskFault` comes where a call of the disk failed. Where that was a read of a slot that was looked at, all entries of the sound slots
+/// - `DiskFault` comes where a call of the disk failed. Where that was a read of a slot that was looked at, all entries that were found
 ///   were printed, as the report says; else the first ones were.
 /// - `NoMemory` says that no memory was found. With no report nothing was printed; else the lines of the first entries were, each whole.
 pub fn bridge_rescue<D: Disk, K: Sink>(

@@ -4,7 +4,8 @@ ghost use Rattle.edge_io.specs.Door.{IsNewDoor};
 
 use crate::held::{Held, Movable, Plan};
 use crate::held_monitor::{Ask, HeldMonitor};
-use edge_io::{AcceptFault, Door, HeldUp, Net, NetFault, Object, Pause, Proto, Shortage};
+use edge_io::{AcceptFault, Door, HeldUp, Net, NetFault, Object, Pause, Proto};
+use event_form::Talk;
 use std::alloc::{AllocError, Global};
 use std::sync::atomic::AtomicBool;
 
@@ -40,7 +41,7 @@ impl<'a> Door for HeldDoor<'a> {
 
     ghost permits = { λ _ _ _ _. Unit {0} };
 
-    fn accept(&mut self) -> Result<Option<Held<'a>>, AcceptFault> {
+    fn accept(&mut self, _: u64) -> Result<Option<Held<'a>>, AcceptFault> {
         Ok(self.link.take())
     }
 
@@ -50,7 +51,7 @@ impl<'a> Door for HeldDoor<'a> {
         _: Proto,
         _: u64,
         status: u8,
-        _: Option<Shortage>,
+        _: Talk,
     ) -> Result<(), AllocError> {
         self.read_faults = self.read_faults.saturating_add(link.read_faults);
         self.write_faults = self.write_faults.saturating_add(link.write_faults);

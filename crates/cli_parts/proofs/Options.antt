@@ -1,10 +1,11 @@
 -- How words are read, one after another, where options of a run stand among them.
-use Rattle.std.proofs.Common.{◌≡◌, ◌∙◌, ◌-◌, ◌<◌, ◌≤◌, List, [], ◌∷◌, ◌++◌, length, get_or, take, drop, map, true, false, inl, inr, refl, sym, ap, subst, arith, codes}
+use Rattle.std.proofs.Common.{◌≡◌, ◌∙◌, ◌-◌, ◌<◌, ◌≤◌, List, [], ◌∷◌, ◌++◌, Some, length, get_or, take, drop, map, true, false, inl, inr, refl, sym, ap, subst, arith, codes}
 use Rattle.std.proofs.lemmas.List.{take_rest, append-nil}
 use Rattle.cli_parts.specs.declared.run_options.RunOptions.{RunOptions}
+use Rattle.cli_parts.specs.declared.run_options.Flag.{Flag}
 use Rattle.cli_parts.specs.declared.run_options.WrongOption.{WrongOption}
-use Rattle.cli_parts.specs.declared.run_options.WrongOption.TheVariants.{QuietTwice, QuietValue, IdleElsewhere, IdleTwice, IdleNoValue, IdleRange, MemoryElsewhere, MemoryTwice, MemoryNoValue, MemoryRange}
-use Rattle.cli_parts.specs.RunOptions.{Text, no_options, option_name, IsNoOption, IsNoBytes, IsNoSeconds, IsRead, named, quiet, idle, memory, other, AreTaken, TakesIdle, TakesMemory, IsWrongNext}
+use Rattle.cli_parts.specs.declared.run_options.WrongOption.TheVariants.{Twice, Valued, IdleElsewhere, IdleTwice, IdleNoValue, IdleRange, MemoryElsewhere, MemoryTwice, MemoryNoValue, MemoryRange}
+use Rattle.cli_parts.specs.RunOptions.{Text, no_options, option_name, IsNoOption, IsNoBytes, IsNoSeconds, IsRead, named, flag, idle, memory, other, flag_word, is_given, giving, AreTaken, TakesIdle, TakesMemory, IsWrongNext}
 use Rattle.cli_parts.specs.Piece.{IsNext, so_far_as}
 
 -- the first of some elements, and the others as a pattern has them
@@ -21,12 +22,17 @@ none_of f (x ∷ xs) few = absurd (omega arith)
 
 -- ---- one word, or an option with its value
 
-pub next_quiet : (name word : Text) (more : List Text) (old : RunOptions) (kept : List Text) → word ≡ codes "--quiet" → old.is_quiet ≡ false
-    → IsNext name (word ∷ more) more (so_far_as old kept) (so_far_as (record old { is_quiet = true }) kept)
-next_quiet name word more old kept is unsaid = record {
-  own = codes "--quiet" ∷ [];
+-- an option that has no value, with one
+pub valued : (one : Flag) (word name value : Text) → word ≡ name ++ 61 ∷ value → name ≡ flag_word one
+    → (v : Text) × (word ≡ flag_word one ++ 61 ∷ v)
+valued one word name value whole is = (value, whole ∙ ap (λ (n : Text). n ++ 61 ∷ value) is)
+
+pub next_flag : (one : Flag) (name word : Text) (more : List Text) (old new : RunOptions) (kept : List Text) → word ≡ flag_word one
+    → is_given one old ≡ false → new ≡ giving one old → IsNext name (word ∷ more) more (so_far_as old kept) (so_far_as new kept)
+next_flag one name word more old new kept is unsaid given = record {
+  own = flag_word one ∷ [];
   words_are = ap (λ w. w ∷ more) is;
-  goes_on = λ read was. quiet was unsaid;
+  goes_on = λ read was. subst (λ (o : RunOptions). IsRead name (read ++ flag_word one ∷ []) o kept) (sym given) (flag one was unsaid);
 }
 
 pub next_idle : (name word value : Text) (whole more : List Text) (old new : RunOptions) (kept : List Text) → whole ≡ value ∷ more
@@ -67,10 +73,15 @@ next_memory_with name word value more old new kept is takes = record {
 
 -- what is wrong with them
 
+pub wrong_flag : (one : Flag) (name word : Text) (more : List Text) (old : RunOptions) (wrong : WrongOption) → word ≡ flag_word one
+    → (wrong ≡ Twice one) × (is_given one old ≡ true) → IsWrongNext wrong name old (word ∷ more)
+wrong_flag one name word more old wrong is why =
+    subst (λ (w : WrongOption). IsWrongNext w name old (word ∷ more)) (sym why.0) (why.1, ap Some is)
+
 pub wrong_idle : (name word value : Text) (whole more : List Text) (old : RunOptions) (wrong : WrongOption) → whole ≡ value ∷ more
     → word ≡ codes "--idle" → IsNoSeconds wrong name old value → IsWrongNext wrong name old (word ∷ whole)
-wrong_idle name word value whole more old QuietTwice whole_is is why = absurd why
-wrong_idle name word value whole more old QuietValue whole_is is why = absurd why
+wrong_idle name word value whole more old (Twice one) whole_is is why = absurd why
+wrong_idle name word value whole more old (Valued one) whole_is is why = absurd why
 wrong_idle name word value whole more old IdleElsewhere whole_is is why = (why, (word, whole, refl, ap option_name is))
 wrong_idle name word value whole more old IdleTwice whole_is is why = (why, (word, whole, refl, ap option_name is))
 wrong_idle name word value whole more old IdleNoValue whole_is is why = absurd why
@@ -83,8 +94,8 @@ wrong_idle name word value whole more old MemoryRange whole_is is why = absurd w
 
 pub wrong_idle_with : (name word value : Text) (more : List Text) (old : RunOptions) (wrong : WrongOption) → word ≡ codes "--idle=" ++ value
     → IsNoSeconds wrong name old value → IsWrongNext wrong name old (word ∷ more)
-wrong_idle_with name word value more old QuietTwice is why = absurd why
-wrong_idle_with name word value more old QuietValue is why = absurd why
+wrong_idle_with name word value more old (Twice one) is why = absurd why
+wrong_idle_with name word value more old (Valued one) is why = absurd why
 wrong_idle_with name word value more old IdleElsewhere is why = (why, (word, more, refl, ap option_name is))
 wrong_idle_with name word value more old IdleTwice is why = (why, (word, more, refl, ap option_name is))
 wrong_idle_with name word value more old IdleNoValue is why = absurd why
@@ -96,8 +107,8 @@ wrong_idle_with name word value more old MemoryRange is why = absurd why
 
 pub wrong_memory : (name word value : Text) (whole more : List Text) (old : RunOptions) (wrong : WrongOption) → whole ≡ value ∷ more
     → word ≡ codes "--memory" → IsNoBytes wrong name old value → IsWrongNext wrong name old (word ∷ whole)
-wrong_memory name word value whole more old QuietTwice whole_is is why = absurd why
-wrong_memory name word value whole more old QuietValue whole_is is why = absurd why
+wrong_memory name word value whole more old (Twice one) whole_is is why = absurd why
+wrong_memory name word value whole more old (Valued one) whole_is is why = absurd why
 wrong_memory name word value whole more old MemoryElsewhere whole_is is why = (why, (word, whole, refl, ap option_name is))
 wrong_memory name word value whole more old MemoryTwice whole_is is why = (why, (word, whole, refl, ap option_name is))
 wrong_memory name word value whole more old MemoryNoValue whole_is is why = absurd why
@@ -110,8 +121,8 @@ wrong_memory name word value whole more old IdleRange whole_is is why = absurd w
 
 pub wrong_memory_with : (name word value : Text) (more : List Text) (old : RunOptions) (wrong : WrongOption) → word ≡ codes "--memory=" ++ value
     → IsNoBytes wrong name old value → IsWrongNext wrong name old (word ∷ more)
-wrong_memory_with name word value more old QuietTwice is why = absurd why
-wrong_memory_with name word value more old QuietValue is why = absurd why
+wrong_memory_with name word value more old (Twice one) is why = absurd why
+wrong_memory_with name word value more old (Valued one) is why = absurd why
 wrong_memory_with name word value more old MemoryElsewhere is why = (why, (word, more, refl, ap option_name is))
 wrong_memory_with name word value more old MemoryTwice is why = (why, (word, more, refl, ap option_name is))
 wrong_memory_with name word value more old MemoryNoValue is why = absurd why

@@ -1,15 +1,16 @@
 -- How the next of a command's words is read, where it may be an option of a run, and what is taken of all.
-use Rattle.std.specs.Prelude.{◌≡◌, ◌≢◌, ◌⊎◌, List, ◌++◌, codes, map, string_bytes}
+use Rattle.std.specs.Prelude.{◌≡◌, ◌≢◌, ◌⊎◌, List, ◌∷◌, ◌++◌, codes, map, string_bytes}
 use Rattle.cli_parts.specs.declared.run_options.Piece.{Piece}
-use Rattle.cli_parts.specs.declared.run_options.Piece.TheVariants.{Quiet, QuietWith, Idle, IdleWith, Memory, MemoryWith, Other}
+use Rattle.cli_parts.specs.declared.run_options.Piece.TheVariants.{Flag, FlagWith, Idle, IdleWith, Memory, MemoryWith, Other}
+use Rattle.cli_parts.specs.declared.run_options.Flag.{Flag as RunFlag}
 use Rattle.cli_parts.specs.declared.run_options.RunOptions.{RunOptions}
 use Rattle.cli_parts.specs.declared.run_options.Taken.{Taken}
-use Rattle.cli_parts.specs.RunOptions.{Text, IsNoOption, IsRead, AreTaken, AreNone}
+use Rattle.cli_parts.specs.RunOptions.{Text, IsNoOption, IsRead, AreTaken, AreNone, flag_word}
 
 -- what the word is
 abbrev pub IsPiece : Piece → Text → Type 0
-IsPiece Quiet word = word ≡ codes "--quiet"
-IsPiece QuietWith word = (value : Text) × (word ≡ codes "--quiet=" ++ value)
+IsPiece (Flag one) word = word ≡ flag_word one
+IsPiece (FlagWith one) word = (value : Text) × (word ≡ flag_word one ++ 61 ∷ value)
 IsPiece Idle word = word ≡ codes "--idle"
 IsPiece (IdleWith value) word = word ≡ codes "--idle=" ++ value.now
 IsPiece Memory word = word ≡ codes "--memory"
@@ -18,10 +19,10 @@ IsPiece Other word = IsNoOption word
 
 -- the same of a word without `=`
 abbrev pub IsPlain : Piece → Text → Type 0
-IsPlain Quiet word = word ≡ codes "--quiet"
+IsPlain (Flag one) word = word ≡ flag_word one
 IsPlain Idle word = word ≡ codes "--idle"
 IsPlain Memory word = word ≡ codes "--memory"
-IsPlain Other word = (word ≢ codes "--quiet") × (word ≢ codes "--idle") × (word ≢ codes "--memory")
+IsPlain Other word = ((one : RunFlag) → word ≢ flag_word one) × (word ≢ codes "--idle") × (word ≢ codes "--memory")
 IsPlain piece word = ⊥
 
 -- what came of the words that were read: the options, and the words that are kept

@@ -1,10 +1,12 @@
 -- The options of a run, which stand among the words of any command and are none of them.
-use Rattle.std.specs.Prelude.{◌≡◌, ◌≢◌, ◌⊎◌, ◌==◌, ℕ, List, [], ◌∷◌, ◌++◌, Option, Some, None, IsSome, true, false, codes, slice_get}
+use Rattle.std.specs.Prelude.{◌≡◌, ◌≢◌, ◌⊎◌, ◌==◌, ℕ, List, [], ◌∷◌, ◌++◌, Option, Some, None, IsSome, Bool, true, false, codes, slice_get}
 use Rattle.std.specs.List.{before_first}
 use Rattle.bridge_words.specs.Values.{number_within}
 use Rattle.cli_parts.specs.declared.run_options.RunOptions.{RunOptions}
+use Rattle.cli_parts.specs.declared.run_options.Flag.{Flag}
+use Rattle.cli_parts.specs.declared.run_options.Flag.TheVariants.{Quiet, Verbose, LogTime}
 use Rattle.cli_parts.specs.declared.run_options.WrongOption.{WrongOption}
-use Rattle.cli_parts.specs.declared.run_options.WrongOption.TheVariants.{QuietTwice, QuietValue, IdleElsewhere, IdleTwice, IdleNoValue, IdleRange, MemoryElsewhere, MemoryTwice, MemoryNoValue, MemoryRange}
+use Rattle.cli_parts.specs.declared.run_options.WrongOption.TheVariants.{Twice, Valued, IdleElsewhere, IdleTwice, IdleNoValue, IdleRange, MemoryElsewhere, MemoryTwice, MemoryNoValue, MemoryRange}
 
 -- the bytes of a word
 abbrev pub Text : Type 0
@@ -12,7 +14,25 @@ Text = List ℕ
 
 -- none is given
 abbrev pub no_options : RunOptions
-no_options = record { is_quiet = false; idle = None; memory = None }
+no_options = record { is_quiet = false; is_verbose = false; has_time = false; idle = None; memory = None }
+
+-- the name of an option that has no value
+abbrev pub flag_word : Flag → Text
+flag_word Quiet = codes "--quiet"
+flag_word Verbose = codes "--verbose"
+flag_word LogTime = codes "--log-time"
+
+-- whether it is given
+abbrev pub is_given : Flag → RunOptions → Bool
+is_given Quiet options = options.is_quiet
+is_given Verbose options = options.is_verbose
+is_given LogTime options = options.has_time
+
+-- these options, and that one
+abbrev pub giving : Flag → RunOptions → RunOptions
+giving Quiet options = record options { is_quiet = true }
+giving Verbose options = record options { is_verbose = true }
+giving LogTime options = record options { has_time = true }
 
 -- the name of an option: what stands before its `=`
 abbrev pub option_name : Text → Text
@@ -20,7 +40,7 @@ option_name word = before_first (λ b. b == 61) word
 
 -- the word is no option of a run
 pub record IsNoOption (word : Text) : Type 0 where
-  pub no_quiet : option_name word ≢ codes "--quiet"
+  pub no_flag : (flag : Flag) → option_name word ≢ flag_word flag
   pub no_idle : option_name word ≢ codes "--idle"
   pub no_memory : option_name word ≢ codes "--memory"
 
@@ -44,8 +64,8 @@ seconds_in value = number_within 1 86400 value
 -- at most, and `--idle` and `--memory` with `serve` alone; and the other words, in their order.
 pub data IsRead (name : Text) : List Text → RunOptions → List Text → Type 0 where
   named : IsRead name (name ∷ []) no_options (name ∷ [])
-  quiet : {words kept : List Text} {options : RunOptions} → IsRead name words options kept → options.is_quiet ≡ false
-      → IsRead name (words ++ codes "--quiet" ∷ []) (record options { is_quiet = true }) kept
+  flag : {words kept : List Text} {options : RunOptions} (one : Flag) → IsRead name words options kept → is_given one options ≡ false
+      → IsRead name (words ++ flag_word one ∷ []) (giving one options) kept
   idle : {words kept own : List Text} {options : RunOptions} {value : Text} {n : ℕ} → IsRead name words options kept → options.idle ≡ None
       → name ≡ codes "serve" → IsIdle own value → seconds_in value ≡ Some n
       → IsRead name (words ++ own) (record options { idle = Some n }) kept
@@ -116,8 +136,8 @@ IsNoSeconds wrong name options value = ⊥
 
 -- what is wrong with the option that the words begin with, after these options
 abbrev pub IsWrongNext : WrongOption → Text → RunOptions → List Text → Type 0
-IsWrongNext QuietTwice name options words = (options.is_quiet ≡ true) × (slice_get words 0 ≡ Some (codes "--quiet"))
-IsWrongNext QuietValue name options words = (value : Text) × (slice_get words 0 ≡ Some (codes "--quiet=" ++ value))
+IsWrongNext (Twice one) name options words = (is_given one options ≡ true) × (slice_get words 0 ≡ Some (flag_word one))
+IsWrongNext (Valued one) name options words = (value : Text) × (slice_get words 0 ≡ Some (flag_word one ++ 61 ∷ value))
 IsWrongNext IdleElsewhere name options words = (name ≢ codes "serve") × BeginsIdle words
 IsWrongNext IdleTwice name options words = IsSome options.idle × BeginsIdle words
 IsWrongNext IdleNoValue name options words = words ≡ codes "--idle" ∷ []
@@ -142,8 +162,12 @@ pub record IsWrong (wrong : WrongOption) (words : List Text) : Type 0 where
 
 -- the text has no end of line
 abbrev pub wrong_text : WrongOption → Text
-wrong_text QuietTwice = codes "--quiet: given twice"
-wrong_text QuietValue = codes "--quiet: takes no value"
+wrong_text (Twice Quiet) = codes "--quiet: given twice"
+wrong_text (Twice Verbose) = codes "--verbose: given twice"
+wrong_text (Twice LogTime) = codes "--log-time: given twice"
+wrong_text (Valued Quiet) = codes "--quiet: takes no value"
+wrong_text (Valued Verbose) = codes "--verbose: takes no value"
+wrong_text (Valued LogTime) = codes "--log-time: takes no value"
 wrong_text IdleElsewhere = codes "--idle: an option of serve alone, 1 to 86400 seconds"
 wrong_text IdleTwice = codes "--idle: given twice; once, 1 to 86400 seconds"
 wrong_text IdleNoValue = codes "--idle: no value; 1 to 86400 seconds"

@@ -1,6 +1,7 @@
 //! What the program was called with.
 use std::rt::Env;
 use std::{env, io};
+use thiserror::Error;
 
 /// What the program was called with.
 #[derive(Drop)]
@@ -12,11 +13,13 @@ pub struct Arguments {
 }
 
 /// Why there are no arguments.
-#[derive(Drop)]
+#[derive(Clone, Copy, PartialEq, Eq, Debug, Drop, Error)]
 pub enum NoArguments {
     /// A word is no text in UTF-8.
+    #[error("a word is no UTF-8")]
     NoText,
     /// No memory was found.
+    #[error("no memory")]
     NoMemory,
 }
 

@@ -52,6 +52,8 @@ Options, after the command's name:
   --memory BYTES        serve: how much memory senders' connections may take, 16777216 to
                         8589934592 (268435456)
   --quiet               any: standard error gets no line about the network
+  --verbose             any: standard error says which connection each sender has
+  --log-time            any: lines on standard error have the time before them
 
 Exit statuses; a line on standard error says more:
    0  all was done

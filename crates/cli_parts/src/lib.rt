@@ -1,5 +1,6 @@
-//! What the program does around its one call: what it was called with, which options of the run are among the words, which tokens a file of them has, how FILE is made and opened, whether a `format` of it goes on, what
-//! is shown of a command's progress and of FILE's health, the lines on standard error, the page of help, and the exit status.
+//! What the program does around its one call: what it was called with, which options of the run are among the words, which tokens a file of
+//! them has, how FILE is made and opened, whether a `format` of it goes on, what is shown of a command's progress and of FILE's health, the
+//! lines on standard error, the page of help, and the exit status.
 #![tactic(auto)]
 
 mod arguments;
@@ -44,7 +45,7 @@ pub use memory::keep_freed;
 pub use opening::{Opening, Showing};
 pub use progress::{Progress, Watched};
 pub use report::{
-    print_beside_usage, print_beside_wrong_option, print_ending, print_line, print_no_spool,
+    print_beside_usage, print_beside_wrong_option, print_ending, print_error, print_no_spool,
     print_note, print_rescue, print_unopened,
 };
 pub use rescue_words::{RescueWords, rescue_of};

@@ -16,22 +16,39 @@ const COMMANDS: [&str; 9] = [
 
 const NO_COMMAND: [&str; 2] = ["--help", "--version"];
 
-const OTHERS: [&str; 3] = ["--quiet", "--help", "--version"];
+const OTHERS: [&str; 5] = ["--quiet", "--verbose", "--log-time", "--help", "--version"];
 
-const LIST: [&str; 4] = ["--as", "--quiet", "--help", "--version"];
-
-const REPLAY: [&str; 5] = ["--token", "--ack-token", "--quiet", "--help", "--version"];
-
-const DRAIN: [&str; 6] = [
-    "--out-token",
-    "--out-channel",
-    "--polls",
+const LIST: [&str; 6] = [
+    "--as",
     "--quiet",
+    "--verbose",
+    "--log-time",
     "--help",
     "--version",
 ];
 
-const SERVE: [&str; 21] = [
+const REPLAY: [&str; 7] = [
+    "--token",
+    "--ack-token",
+    "--quiet",
+    "--verbose",
+    "--log-time",
+    "--help",
+    "--version",
+];
+
+const DRAIN: [&str; 8] = [
+    "--out-token",
+    "--out-channel",
+    "--polls",
+    "--quiet",
+    "--verbose",
+    "--log-time",
+    "--help",
+    "--version",
+];
+
+const SERVE: [&str; 23] = [
     "--relp",
     "--lumberjack",
     "--hec",
@@ -51,6 +68,8 @@ const SERVE: [&str; 21] = [
     "--idle",
     "--memory",
     "--quiet",
+    "--verbose",
+    "--log-time",
     "--help",
     "--version",
 ];

@@ -6,16 +6,22 @@ use crate::run_options::WrongOption;
 use crate::skip_words::{begins_skip, skip_of};
 use crate::status::Ending;
 use crate::unopened::missing_folder;
-use bridge_rescue::{Report, SlotFault, Span, Why};
+use bridge_rescue::{Report, Span};
 use bridge_words::{WordsFault, wrong_words};
 use edge_file::OpenFault;
 use notes::{Note, note_text};
+use std::fmt::Display;
 use std::fs::Files;
 use std::str;
 
 /// Prints a line.
-pub fn print_line(rt: &impl Eprint, text: &str) {
+pub(crate) fn print_line(rt: &impl Eprint, text: &str) {
     let _ = eprintln!(rt; "bridge: {text}");
+}
+
+/// Prints an error's message, as a line.
+pub fn print_error<E: Display>(rt: &impl Eprint, error: &E) {
+    let _ = eprintln!(rt; "bridge: {error}");
 }
 
 // The text of `Note::NoMemory`, here as a constant, since there may be no memory to make it of the note.
@@ -38,24 +44,13 @@ pub fn print_note(rt: &(impl AllocGlobal + Eprint), note: Note) {
     }
 }
 
-// Prints what is wrong with a slot.
-fn print_fault(rt: &impl Eprint, fault: SlotFault) {
-    let SlotFault { place, at, why } = fault;
-    let _ = match why {
-        Why::Cut => eprintln!(rt; "bridge: slot {place}: FILE ends at byte {at}"),
-        Why::Broken => eprintln!(rt; "bridge: slot {place}: no whole group at byte {at}"),
-        Why::TooHigh => eprintln!(rt; "bridge: slot {place}: numbers above 2^63 at byte {at}"),
-        Why::Unread => eprintln!(rt; "bridge: slot {place}: a read failed, from byte {at} on"),
-    };
-}
-
-// Prints which numbers are missing between the sound slots.
+// Prints which numbers are missing between the slots.
 fn print_gap(rt: &impl Eprint, gap: Span) {
     let (first, last) = (gap.from, gap.to.saturating_sub(1));
     let _ = if first == last {
-        eprintln!(rt; "bridge: entry {first}: in no slot that is sound")
+        eprintln!(rt; "bridge: entry {first}: missing")
     } else {
-        eprintln!(rt; "bridge: entries {first} to {last}: in no slot that is sound")
+        eprintln!(rt; "bridge: entries {first} to {last}: missing")
     };
 }
 
@@ -101,7 +96,7 @@ pub fn print_rescue(
         return;
     };
     for fault in &report.faults {
-        print_fault(rt, *fault);
+        print_error(rt, fault);
     }
     for gap in &report.gaps {
         print_gap(rt, *gap);
@@ -162,7 +157,7 @@ pub fn print_beside_usage(rt: &(impl AllocGlobal + Eprint), arguments: &Argument
             "rescue takes nothing, or SLOTS, 1 to 1024, and SIZE, 4096 to 1073741824",
         );
     } else if let Ok(Some(fault)) = wrong_words(rt.alloc(), &arguments.words) {
-        let _ = eprintln!(rt; "bridge: {fault}");
+        print_error(rt, &fault);
         if fault == WordsFault::Size {
             print_line(
                 rt,
@@ -179,7 +174,7 @@ pub fn print_beside_wrong_option(
     arguments: &Arguments,
     wrong: WrongOption,
 ) {
-    let _ = eprintln!(rt; "bridge: {wrong}");
+    print_error(rt, &wrong);
     print_near_name(rt, arguments);
 }
 

@@ -1,9 +1,11 @@
 //! The options of a run, which say how the program works and not what a command does. They stand among the command's words, and are
 //! taken out of these before the command is read.
-ghost use Rattle.std.specs.Prelude.{◌≡◌, ◌≤◌, ◌++◌, ◌∷◌, [], Err, IfOk, OnOk, IfErr, length, map, string_bytes};
+ghost use Rattle.std.specs.Prelude.{◌≡◌, ◌≢◌, ◌≤◌, ◌++◌, ◌∷◌, [], Err, IfOk, OnOk, IfErr, MatchOption, true, false, length, map, string_bytes};
+ghost use Rattle.cli_parts.specs.declared.run_options.Flag.{Flag};
+ghost use Rattle.cli_parts.specs.declared.run_options.WrongOption.TheVariants.{Twice};
 ghost use Rattle.cli_parts.specs.declared.run_options.WrongOption.{WrongOption};
 ghost use Rattle.cli_parts.specs.declared.run_options.Untaken.TheVariants.{Wrong, NoMemory};
-ghost use Rattle.cli_parts.specs.RunOptions.{IsNoBytes, IsNoSeconds, IsWrong, IsWrongNext, TakesIdle, TakesMemory, wrong_text};
+ghost use Rattle.cli_parts.specs.RunOptions.{IsNoBytes, IsNoSeconds, IsWrong, IsWrongNext, TakesIdle, TakesMemory, flag_word, is_given, giving, wrong_text};
 ghost use Rattle.cli_parts.specs.Piece.{IsPiece, IsPlain, IsTaken, TakesNext};
 
 use crate::bytes::bytes;
@@ -16,6 +18,10 @@ use thiserror::Error;
 pub struct RunOptions {
     /// Nothing is said of the net on standard error: `--quiet`.
     pub is_quiet: bool,
+    /// It is said which number the connection of each sender has: `--verbose`.
+    pub is_verbose: bool,
+    /// Lines on standard error have the time before them: `--log-time`.
+    pub has_time: bool,
     /// For how many seconds a sender may be silent before its connection is closed, where that is said: 1 to 86,400, by
     /// `--idle SECONDS`.
     pub idle: Option<u64>,
@@ -24,14 +30,51 @@ pub struct RunOptions {
     pub memory: Option<u64>,
 }
 
+/// An option of a run that has no value.
+#[derive(Clone, Copy, PartialEq, Eq, Debug, Drop)]
+pub enum Flag {
+    /// `--quiet`.
+    Quiet,
+    /// `--verbose`.
+    Verbose,
+    /// `--log-time`.
+    LogTime,
+}
+
+impl RunOptions {
+    // Whether the option is given, which has no value.
+    fn has(self, flag: Flag) -> bool
+        ensures { result ≡ is_given flag self }
+    {
+        match flag {
+            Flag::Quiet => self.is_quiet,
+            Flag::Verbose => self.is_verbose,
+            Flag::LogTime => self.has_time,
+        }
+    }
+
+    // These options, and that one.
+    fn with(self, flag: Flag) -> RunOptions
+        ensures { result ≡ giving flag self }
+    {
+        let mut options = self;
+        match flag {
+            Flag::Quiet => options.is_quiet = true,
+            Flag::Verbose => options.is_verbose = true,
+            Flag::LogTime => options.has_time = true,
+        }
+        options
+    }
+}
+
 /// Which option of a run is wrong, and why.
 #[derive(Clone, Copy, PartialEq, Eq, Debug, Drop, Error)]
 #[error("{}", self.text())]
 pub enum WrongOption {
-    /// `--quiet` is given twice.
-    QuietTwice,
-    /// `--quiet` has a value.
-    QuietValue,
+    /// One that has no value is given twice.
+    Twice(Flag),
+    /// It is given a value.
+    Valued(Flag),
     /// `--idle` stands with another command than `serve`.
     IdleElsewhere,
     /// `--idle` is given twice.
@@ -56,8 +99,12 @@ impl WrongOption {
         ensures { result.now ≡ wrong_text self }
     {
         match self {
-            WrongOption::QuietTwice => "--quiet: given twice",
-            WrongOption::QuietValue => "--quiet: takes no value",
+            WrongOption::Twice(Flag::Quiet) => "--quiet: given twice",
+            WrongOption::Twice(Flag::Verbose) => "--verbose: given twice",
+            WrongOption::Twice(Flag::LogTime) => "--log-time: given twice",
+            WrongOption::Valued(Flag::Quiet) => "--quiet: takes no value",
+            WrongOption::Valued(Flag::Verbose) => "--verbose: takes no value",
+            WrongOption::Valued(Flag::LogTime) => "--log-time: takes no value",
             WrongOption::IdleElsewhere => "--idle: an option of serve alone, 1 to 86400 seconds",
             WrongOption::IdleTwice => "--idle: given twice; once, 1 to 86400 seconds",
             WrongOption::IdleNoValue => "--idle: no value; 1 to 86400 seconds",
@@ -105,10 +152,10 @@ pub struct Taken {
 // What a word is that stands where an option of a run may.
 #[derive(Clone, Copy)]
 enum Piece<'a> {
-    // `--quiet`.
-    Quiet,
-    // The same with a value.
-    QuietWith,
+    // An option that has no value.
+    Flag(Flag),
+    // The same with one.
+    FlagWith(Flag),
     // `--idle`, whose value is the next word.
     Idle,
     // `--idle` with its value.
@@ -121,6 +168,21 @@ enum Piece<'a> {
     Other,
 }
 
+// The option without a value that has this name.
+fn flag_of(name: &str) -> Option<Flag>
+    ensures { MatchOption result ((flag : Flag) → name.now ≢ flag_word flag) (λ flag. name.now ≡ flag_word flag) }
+{
+    if name == "--quiet" {
+        Some(Flag::Quiet)
+    } else if name == "--verbose" {
+        Some(Flag::Verbose)
+    } else if name == "--log-time" {
+        Some(Flag::LogTime)
+    } else {
+        None
+    }
+}
+
 // What the word is.
 fn piece_of(word: &str) -> Piece<'_>
     ensures { IsPiece result word.now }
@@ -128,14 +190,15 @@ fn piece_of(word: &str) -> Piece<'_>
     let Some((name, value)) = word.split_once('=') else {
         return plain_piece(word);
     };
-    if name == "--quiet" {
-        Piece::QuietWith
-    } else if name == "--idle" {
-        Piece::IdleWith(value)
-    } else if name == "--memory" {
-        Piece::MemoryWith(value)
-    } else {
-        Piece::Other
+    if name == "--idle" {
+        return Piece::IdleWith(value);
+    }
+    if name == "--memory" {
+        return Piece::MemoryWith(value);
+    }
+    match flag_of(name) {
+        Some(flag) => Piece::FlagWith(flag),
+        None => Piece::Other,
     }
 }
 
@@ -143,14 +206,15 @@ fn piece_of(word: &str) -> Piece<'_>
 fn plain_piece(word: &str) -> Piece<'static>
     ensures { IsPlain result word.now }
 {
-    if word == "--quiet" {
-        Piece::Quiet
-    } else if word == "--idle" {
-        Piece::Idle
-    } else if word == "--memory" {
-        Piece::Memory
-    } else {
-        Piece::Other
+    if word == "--idle" {
+        return Piece::Idle;
+    }
+    if word == "--memory" {
+        return Piece::Memory;
+    }
+    match flag_of(word) {
+        Some(flag) => Piece::Flag(flag),
+        None => Piece::Other,
     }
 }
 
@@ -173,6 +237,20 @@ impl Taken {
         for word in words {
             self.keep(alloc, word.as_str())?;
         }
+        Ok(())
+    }
+
+    // The option is given, which has no value. The error says that it is for the second time.
+    fn take_flag(&mut self, flag: Flag) -> Result<(), WrongOption>
+        ensures once { OnOk result (is_given flag self.old.options ≡ false) }
+        ensures given { OnOk result (self.new.options ≡ giving flag self.old.options) }
+        ensures words { self.new.words ≡ self.old.words }
+        ensures wrong { IfErr result (λ wrong. (wrong ≡ Twice flag) × (is_given flag self.old.options ≡ true)) }
+    {
+        if self.options.has(flag) {
+            return Err(WrongOption::Twice(flag));
+        }
+        self.options = self.options.with(flag);
         Ok(())
     }
 
@@ -229,14 +307,6 @@ impl Taken {
             → IsWrongNext wrong name.now self.old.options (word.now ∷ map string_bytes more.now) }
     {
         match piece_of(word) {
-            Piece::Quiet => {
-                if self.options.is_quiet {
-                    return Err(Untaken::Wrong(WrongOption::QuietTwice));
-                }
-                self.options.is_quiet = true;
-                Ok(more)
-            }
-            Piece::QuietWith => Err(Untaken::Wrong(WrongOption::QuietValue)),
             Piece::IdleWith(value) => match self.take_idle(name, value) {
                 Ok(()) => Ok(more),
                 Err(wrong) => Err(Untaken::Wrong(wrong)),
@@ -263,6 +333,11 @@ impl Taken {
                     Err(wrong) => Err(Untaken::Wrong(wrong)),
                 }
             }
+            Piece::Flag(flag) => match self.take_flag(flag) {
+                Ok(()) => Ok(more),
+                Err(wrong) => Err(Untaken::Wrong(wrong)),
+            },
+            Piece::FlagWith(flag) => Err(Untaken::Wrong(WrongOption::Valued(flag))),
             Piece::Other => {
                 self.keep(alloc, word)?;
                 Ok(more)
@@ -271,8 +346,9 @@ impl Taken {
     }
 }
 
-/// Takes the options of the run out of words, which are the name of a command and then its own words: `--quiet`, and with `serve`
-/// `--idle SECONDS` or `--idle=SECONDS`, and `--memory` likewise, each once at most. What is left are the other words, in their order, and all from `--` on.
+/// Takes the options of the run out of words, which are the name of a command and then its own words: `--quiet`, `--verbose` and
+/// `--log-time`, and with `serve` `--idle SECONDS` or `--idle=SECONDS`, and `--memory` likewise, each once at most. What is left are the
+/// other words, in their order, and all from `--` on.
 ///
 /// The error says which is the first option that is wrong, and why, or that no memory was found.
 pub fn take_options(alloc: Global, words: &[String]) -> Result<Taken, Untaken>
@@ -283,6 +359,8 @@ pub fn take_options(alloc: Global, words: &[String]) -> Result<Taken, Untaken>
         words: Vec::new(alloc),
         options: RunOptions {
             is_quiet: false,
+            is_verbose: false,
+            has_time: false,
             idle: None,
             memory: None,
         },

@@ -6,12 +6,13 @@ use std::{env, fs, str};
 // How many bytes the name of a stream has at most: two numbers of 64 bits and a colon.
 const MOST_NAMED: usize = 41;
 
-// Lines of what goes as it should begin so.
-const INFORMS: [&str; 4] = [
-    "bridge: listening on ",
-    "bridge: bridge ",
-    "bridge: run ",
-    "bridge: FILE has room again",
+// Lines of what goes as it should begin so, and have this: `bridge: run 7 was the last` is how a command failed.
+const INFORMS: [(&str, &str); 5] = [
+    ("bridge: listening on ", ""),
+    ("bridge: bridge ", ""),
+    ("bridge: run ", " begins: "),
+    ("bridge: connection ", " is of sender "),
+    ("bridge: FILE has room again", ""),
 ];
 
 // A line that says that FILE isn't well ends so.
@@ -40,8 +41,8 @@ pub(crate) fn prefix_of(line: &str) -> &'static str {
     if line.contains(" is well again") && !line.ends_with(UNTIL_WELL) {
         return "<6>";
     }
-    for start in INFORMS {
-        if line.starts_with(start) {
+    for (start, part) in INFORMS {
+        if line.starts_with(start) && line.contains(part) {
             return "<6>";
         }
     }

@@ -1,6 +1,7 @@
 //! A standard error for which nobody has to wait.
 use crate::backlog::{Backlog, Batch};
 use crate::severity::{is_journal, prefix_of};
+use edge_net::Stamp;
 use std::alloc::{AllocError, Global};
 use std::fmt::Display;
 use std::io;
@@ -27,6 +28,8 @@ pub struct StandardError {
     stderr: Stderr,
     // It is the journal's: how grave a line is stands before it.
     is_journal: bool,
+    // The clock by which a line has the time before it, where it is to have one.
+    clock: Option<HostRuntime>,
     has_thread: AtomicBool,
     backlog: Mutex<Backlog>,
     // How many lines wait or are being written.
@@ -37,12 +40,19 @@ pub struct StandardError {
 }
 
 impl StandardError {
-    /// Without a thread: each line is written by whoever says it, who waits until that is done.
-    pub fn new(rt: &HostRuntime) -> StandardError {
+    /// Without a thread: each line is written by whoever says it, who waits until that is done. A line has the time before it where
+    /// `has_time` says so, unless it goes to the journal, which notes the time itself.
+    pub fn new(rt: &HostRuntime, has_time: bool) -> StandardError {
+        let is_journal = is_journal(rt);
         StandardError {
             alloc: rt.alloc(),
             stderr: rt.stderr(),
-            is_journal: is_journal(rt),
+            is_journal,
+            clock: if has_time && !is_journal {
+                Some(*rt)
+            } else {
+                None
+            },
             has_thread: AtomicBool::new(false),
             backlog: Mutex::new(Backlog::new(rt.alloc())),
             unwritten: AtomicU64::new(0),
@@ -76,9 +86,26 @@ impl StandardError {
         None
     }
 
+    // The time that stands before a line, where one does.
+    fn stamp(&self) -> Option<Stamp> {
+        let rt = self.clock?;
+        match rt.since_1970() {
+            Ok(since_1970) => Some(Stamp { since_1970 }),
+            Err(_) => None,
+        }
+    }
+
+    // The line, with the time before it where it has one.
+    fn text_of<D: Display>(&self, line: &D) -> Result<String, AllocError> {
+        match self.stamp() {
+            Some(stamp) => format!(in self.alloc; "{stamp} {line}"),
+            None => format!(in self.alloc; "{line}"),
+        }
+    }
+
     // Hands the line to the thread.
     fn hand<D: Display + Drop>(&self, line: D) {
-        let text = format!(in self.alloc; "{line}");
+        let text = self.text_of(&line);
         let Some(mut backlog) = self.lock() else {
             let _ = self.overlooked.fetch_add(1, Ordering::SeqCst);
             return;
@@ -122,7 +149,12 @@ impl StandardError {
         let dropped = batch.dropped;
         if dropped > 0 {
             let prefix = if self.is_journal { "<4>" } else { "" };
-            let _ = eprintln!(self.stderr; "{prefix}bridge: {dropped} lines were dropped here");
+            let _ = match self.stamp() {
+                Some(stamp) => {
+                    eprintln!(self.stderr; "{stamp} bridge: {dropped} lines were dropped here")
+                }
+                None => eprintln!(self.stderr; "{prefix}bridge: {dropped} lines were dropped here"),
+            };
         }
         let written = batch.lines.len() as u64;
         let _ = self.unwritten.fetch_sub(written, Ordering::SeqCst);
@@ -159,10 +191,10 @@ impl Eprint for StandardError {
             self.hand(value);
             return Ok(());
         }
-        if !self.is_journal {
+        if !self.is_journal && self.clock.is_none() {
             return self.stderr.eprintln(value);
         }
-        match format!(in self.alloc; "{value}") {
+        match self.text_of(&value) {
             Ok(line) => self.write(line.as_str()),
             Err(_) => self.stderr.eprintln(value),
         }

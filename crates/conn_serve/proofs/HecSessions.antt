@@ -19,8 +19,11 @@ use Rattle.spool_faults.specs.declared.fault.TakeFault.TheVariants.{DiskFault}
 use Rattle.http_edge.specs.declared.request.HttpItem.{HttpItem}
 use Rattle.http_edge.specs.declared.request.HttpItem.TheVariants.{Continue, Request}
 use Rattle.http_edge.specs.Lending.{GivesItem}
-use Rattle.http_edge.specs.Reading.{ReadsTo, come}
-use Rattle.http_edge.specs.Window.{Window, Feeds, Reads, taken_of}
+use Rattle.http_edge.specs.declared.head.Head.{Head}
+use Rattle.http_edge.specs.Reading as reading
+use Rattle.http_edge.specs.Reading.{Holds, Reading, ReadsTo, come}
+use Rattle.http_edge.specs.Window.{Window, Feeds, Reads, ReadsOn, taken_of}
+use Rattle.http_edge.proofs.BuildLaws.{some_head}
 use Rattle.http_edge.proofs.FeedLaws.{feeds_faulty}
 use Rattle.http_edge.specs.Why.{why_of}
 use Rattle.hec_session.specs.Acts.{count_of}
@@ -40,6 +43,9 @@ use Rattle.conn_serve.specs.Done.{Done, Leads, SoFar, Anyway}
 use Rattle.conn_serve.specs.Endings.{MayEnd}
 use Rattle.conn_serve.specs.Handled.{Handled, Served, Closing}
 use Rattle.conn_serve.specs.Hec.{hec, reply, success, AreTold, CarriesItem, EndsAtAct, IsCut, IsDone, IsRefused, SaysLast, takes_all, talk_of_issue, StopsAtItem, entries_of}
+use Rattle.conn_serve.specs.declared.hec.intake.Intake.{Intake}
+use Rattle.conn_serve.specs.declared.hec.intake.Refused.{Refused}
+use Rattle.conn_serve.specs.HecReading.{FeedsAs, HoldsBody, GivesKept, IsIdle, IsKept, IsOpen, IsSound, ReadsKept, TellsRest, WasRead}
 use Rattle.conn_serve.specs.HecServing.{Carries, Halts, HaltsAtItem, IsAsked, IsSayable, IsSayableFor, ReadsBy}
 use Rattle.conn_serve.specs.Relp.{talk_of}
 use Rattle.conn_serve.specs.Says.{CouldEnd, PromisesNothing}
@@ -50,6 +56,13 @@ use Rattle.hec_session.specs.declared.code.HecCode.TheVariants.{InvalidFormat}
 use Rattle.conn_serve.proofs.Handling.{handled_none, handled_push, carried_unread, carried_too_much, carried_starved, carried_at, carried_over, carried_instead}
 use Rattle.conn_serve.proofs.HecEntries.{count_entries}
 use Rattle.conn_serve.proofs.HecFronts.{stream_told, faulty_told, told_first, told_more, told_few, holds_come, stream_size}
+
+pub some_come : (n : ℕ) → (n ≡ 0 → ⊥) → 0 < n
+some_come zero h = absurd (h refl)
+some_come (suc n) h = omega arith
+
+some_same : (n m : ℕ) → Some n ≡ Some m → n ≡ m
+some_same n m e = cc
 
 abbrev Met : Type 0
 Met = Option (FeedFault HttpFault)
@@ -80,10 +93,18 @@ by_next w w' (Some feed.NoMemory) i g b items (front, more, is, r) = (front, mor
 
 -- ---- more bytes
 
-pub fed_ok : (old new : Window) (met : Met) (piece : List ℕ) (n : ℕ) → met ≢ Some feed.NoMemory → old.reading.fault ≡ None → Feeds old piece (Ok n) new → (b : List ℕ) (items : List HttpItem) → ReadsBy old met b items → ReadsBy new met (b ++ take n piece) items
-fed_ok old new None piece n found sound (is, none, on) b items (r, s) = (on b items r, none)
-fed_ok old new (Some (feed.Fault e)) piece n found sound f b items (r, is) = cc
-fed_ok old new (Some feed.NoMemory) piece n found sound f b items r = absurd (found refl)
+-- as a window that would be has read them
+pub fed_ok : (v v' : Window) (met : Met) (piece : List ℕ) (n : ℕ) → met ≢ Some feed.NoMemory → FeedsAs v piece (Ok n) v' → (b : List ℕ) (items : List HttpItem) → ReadsBy v met b items → ReadsBy v' met (b ++ take n piece) items
+fed_ok v v' None piece n found (sound, none, on) b items (r, s) = (on b items r, none)
+fed_ok v v' (Some (feed.Fault e)) piece n found (sound, none, on) b items (r, is) = cc
+fed_ok v v' (Some feed.NoMemory) piece n found f b items r = absurd (found refl)
+
+pub fed_err : (v v' : Window) (met : Met) (piece : List ℕ) (fault : FeedFault HttpFault) → met ≢ Some feed.NoMemory → FeedsAs v piece (Err fault) v' → (b : List ℕ) (items : List HttpItem) → ReadsBy v met b items → ReadsBy v' (Some fault) (b ++ piece) items
+fed_err v v' None piece (feed.Fault e) found (is, on) b items (r, sound) = (on b items r, is)
+fed_err v v' (Some (feed.Fault d)) piece (feed.Fault e) found (is, on) b items (r, had) = (on b items r, is)
+fed_err v v' None piece feed.NoMemory found (same, sound) b items (r, none) = (b, piece, refl, subst (Reads b items) (sym same) r)
+fed_err v v' (Some (feed.Fault d)) piece feed.NoMemory found (same, sound) b items (r, had) = (b, piece, refl, subst (Reads b items) (sym same) r)
+fed_err v v' (Some feed.NoMemory) piece fault found f b items r = absurd (found refl)
 
 -- whatever follows a fault
 after_fault : (w : Window) (e : HttpFault) → w.reading.fault ≡ Some e → (more b : List ℕ) (items : List HttpItem) → Reads b items w → Reads (b ++ more) items w
@@ -92,16 +113,25 @@ after_fault w e is more b items r = (feeds_faulty w.reading more e is).1 b items
 all_of : (b piece : List ℕ) (n : ℕ) → (b ++ take n piece) ++ drop n piece ≡ b ++ piece
 all_of b piece n = append_assoc b (take n piece) (drop n piece) ∙ ap (λ (l : List ℕ). b ++ l) (take-append-drop n piece)
 
-pub fed_err : (old new : Window) (met : Met) (piece : List ℕ) (fault : FeedFault HttpFault) → met ≢ Some feed.NoMemory → Feeds old piece (Err fault) new → ((e : HttpFault) → old.reading.fault ≡ Some e → new ≡ old)
-    → (b : List ℕ) (items : List HttpItem) → ReadsBy old met b items → ReadsBy new (Some fault) (b ++ piece) items
-fed_err old new None piece (feed.Fault e) found (is, on) stays b items (r, sound) =
-    let n = taken_of old piece in
-    (subst (λ (l : List ℕ). Reads l items new) (all_of b piece n) (after_fault new e is (drop n piece) (b ++ take n piece) items (on sound b items r)), is)
-fed_err old new (Some (feed.Fault d)) piece (feed.Fault e) found (is, on) stays b items (r, had) =
-    (subst (Reads (b ++ piece) items) (sym (stays d had)) (after_fault old d had piece b items r), is)
-fed_err old new None piece feed.NoMemory found (same, sound) stays b items (r, none) = (b, piece, refl, subst (Reads b items) (sym same) r)
-fed_err old new (Some (feed.Fault d)) piece feed.NoMemory found (same, sound) stays b items (r, had) = (b, piece, refl, subst (Reads b items) (sym same) r)
-fed_err old new (Some feed.NoMemory) piece fault found f stays b items r = absurd (found refl)
+-- what a window reads of a piece, as far as it has room for it
+pub window_ok : (old new : Window) (piece : List ℕ) (n : ℕ) → old.reading.fault ≡ None → Feeds old piece (Ok n) new → FeedsAs old piece (Ok n) new
+window_ok old new piece n sound (is, none, on) = (sound, none, on)
+
+pub window_err : (old new : Window) (piece : List ℕ) (fault : FeedFault HttpFault) → Feeds old piece (Err fault) new → ((e : HttpFault) → old.reading.fault ≡ Some e → new ≡ old) → FeedsAs old piece (Err fault) new
+window_err old new piece feed.NoMemory (same, sound) stays = (same, sound)
+window_err old new piece (feed.Fault e) (is, on) stays = (is, go old.reading.fault refl)
+  where
+    go : (f : Option HttpFault) → old.reading.fault ≡ f → ReadsOn old piece new
+    go None sound b items r =
+        let n = taken_of old piece in
+        subst (λ (l : List ℕ). Reads l items new) (all_of b piece n) (after_fault new e is (drop n piece) (b ++ take n piece) items (on sound b items r))
+    go (Some d) had b items r = subst (Reads (b ++ piece) items) (sym (stays d had)) (after_fault old d had piece b items r)
+
+-- what was read stays so
+by_same : (w w' : Window) (met : Met) → w'.reading ≡ w.reading → (b : List ℕ) (items : List HttpItem) → ReadsBy w met b items → ReadsBy w' met b items
+by_same w w' None e b items (r, sound) = (subst (reading.Reads b items) (sym e) r, ap (λ (x : Reading). x.fault) e ∙ sound)
+by_same w w' (Some (feed.Fault d)) e b items (r, is) = (subst (reading.Reads b items) (sym e) r, ap (λ (x : Reading). x.fault) e ∙ is)
+by_same w w' (Some feed.NoMemory) e b items (front, more, is, r) = (front, more, is, subst (reading.Reads front items) (sym e) r)
 
 -- ---- how many entries are taken
 
@@ -187,9 +217,36 @@ module _ (tokens : Tokens) (conn : ℕ) where
       let t = by_told w met s.bytes s.served.frames s.served.reads in
       omega (arith, s.counted, few_calls s.served.frames s.calls s.text s.served.handled, told_few s.bytes s.served.frames t.0 t.1, s.short)
 
+  -- what a session with this intake, which met that, has served
+  abbrev KeptBy : Intake → Met → List ℕ → List Call → List ℕ → Type 0
+  KeptBy o met = Served (Handled p) (ReadsKept tokens o met)
+
+  -- the same of the window that would be, had each body been kept
+  bare : (o : Intake) (met : Met) (fed : List ℕ) (called : List Call) (said : List ℕ) → (s : KeptBy o met fed called said) → ServedBy s.reads.kept met fed called said
+  bare o met fed called said s = record { frames = s.frames; handled = s.handled; reads = s.reads.reads }
+
+  pub kept_few : (o : Intake) (met : Met) (n more : ℕ) → SoFar (KeptBy o met) n more → n + 10000 < 2 ^ 63
+  kept_few o met n more s =
+      so_far_few s.served.reads.kept met n more (record { bytes = s.bytes; calls = s.calls; text = s.text; counted = s.counted; short = s.short; served = bare o met s.bytes s.calls s.text s.served })
+
+  pub kept_sound : (o : Intake) (met : Met) (n more : ℕ) → SoFar (KeptBy o met) n more → IsSound tokens o.window o.refused
+  kept_sound o met n more s = s.served.reads.sound
+
+  pub kept_read : (o : Intake) (met : Met) (n more : ℕ) → SoFar (KeptBy o met) n more → WasRead o.window o.refused
+  kept_read o met n more s = go o.refused s.served.reads.is_kept
+    where
+      go : (x : Option Refused) → IsKept o.window x s.served.reads.kept → WasRead o.window x
+      go None e = some met (subst (λ (w : Window). ReadsBy w met s.bytes s.served.frames) e s.served.reads.reads)
+        where
+          some : (m : Met) → ReadsBy o.window m s.bytes s.served.frames → (b : List ℕ) × (items : List HttpItem) × Reads b items o.window
+          some None r = (s.bytes, s.served.frames, r.0)
+          some (Some (feed.Fault e)) r = (s.bytes, s.served.frames, r.0)
+          some (Some feed.NoMemory) (front, more, is, r) = (front, s.served.frames, r)
+      go (Some x) h = tt
+
   -- ---- an item more
 
-  module _ (ran : List Call → Type 0) (written written' : Option (List ℕ)) (n n' : ℕ) (w w' : Window) (met : Met) (i : HttpItem) (asked : Asked) (g : GivesItem w i w') (is_asked : IsAsked tokens i asked) (k : ℕ) (same : k ≡ conn) where
+  module _ (ran : List Call → Type 0) (written written' : Option (List ℕ)) (n n' : ℕ) (o o' : Intake) (met : Met) (asked : Asked) (g : GivesKept tokens o (Some asked) o') (k : ℕ) (same : k ≡ conn) where
     carries : (calls : List Call) (text : List ℕ) → (j : HttpItem) (a : Asked) → IsAsked tokens j a → Carries k n a calls text → CarriesItem tokens conn n j calls text
     carries calls text Continue Leave is c = c
     carries calls text Continue (Act act closing) is c = absurd is
@@ -204,7 +261,7 @@ module _ (tokens : Tokens) (conn : ℕ) where
     halts calls text over (Request r) (Act act closing) (is, last) (inr ends) =
         inr (act, is, subst (λ (b : Bool). EndsAtAct conn n act b calls text over) last (subst (λ (m : ℕ). EndsAtAct m n act closing calls text over) same ends))
 
-    pub served_item : Done ran written written' n n' (Carries k n asked) → Done ran written written' n n' (Leads n (ServedBy w met) (ServedBy w' met))
+    pub served_item : Done ran written written' n n' (Carries k n asked) → Done ran written written' n n' (Leads n (KeptBy o met) (KeptBy o' met))
     served_item d = record {
       calls = d.calls;
       text = d.text;
@@ -212,18 +269,20 @@ module _ (tokens : Tokens) (conn : ℕ) where
       wrote = d.wrote;
       counted = d.counted;
       is = λ fed called said counted s.
+          let x = g s.reads.kept s.reads.is_kept in
+          let i = x.item in
           let h = s.handled in
           let step : Step HttpItem = record { frames = i ∷ []; calls = d.calls; text = d.text } in
           let move : CarriesItem tokens conn (count (calls_of h.steps)) i d.calls d.text =
-          subst (λ (m : ℕ). CarriesItem tokens conn m i d.calls d.text) (counted ∙ ap count h.made) (carries d.calls d.text i asked is_asked d.is) in
+          subst (λ (m : ℕ). CarriesItem tokens conn m i d.calls d.text) (counted ∙ ap count h.made) (carries d.calls d.text i asked x.asks d.is) in
           record {
             frames = s.frames ++ i ∷ [];
             handled = handled_push p s.frames called said h i step (ap (λ (l : List HttpItem). l ++ i ∷ []) (sym h.kept)) (i, refl, move) refl;
-            reads = by_next w w' met i g fed s.frames s.reads;
+            reads = record { sound = x.sound; kept = x.after; is_kept = x.is_kept; reads = by_next s.reads.kept x.after met i x.gives fed s.frames s.reads.reads };
           };
     }
 
-    pub served_halt : (over : Talk) → IsAtMove over → Done ran written written' n n' (Halts k n asked over) → Done ran written written' n n' (Leads n (ServedBy w met) (Anyway (Carried p) over))
+    pub served_halt : (over : Talk) → IsAtMove over → Done ran written written' n n' (Halts k n asked over) → Done ran written written' n n' (Leads n (KeptBy o met) (Anyway (Carried p) over))
     served_halt over is d = record {
       calls = d.calls;
       text = d.text;
@@ -231,11 +290,13 @@ module _ (tokens : Tokens) (conn : ℕ) where
       wrote = d.wrote;
       counted = d.counted;
       is = λ fed called said counted s left more.
+          let x = g s.reads.kept s.reads.is_kept in
+          let i = x.item in
           let h = s.handled in
-          let front = by_told w met fed s.frames s.reads in
-          let next = by_told w' met fed (s.frames ++ i ∷ []) (by_next w w' met i g fed s.frames s.reads) in
+          let front = by_told s.reads.kept met fed s.frames s.reads.reads in
+          let next = by_told x.after met fed (s.frames ++ i ∷ []) (by_next s.reads.kept x.after met i x.gives fed s.frames s.reads.reads) in
           carried_at p left (fed ++ more) s.frames front.0 called said h (told_more fed s.frames front.0 more front.1) i next.0 d.calls d.text over is (told_more fed (s.frames ++ i ∷ []) next.0 more next.1)
-          (elim (halts d.calls d.text over i asked is_asked d.is) [
+          (elim (halts d.calls d.text over i asked x.asks d.is) [
             | inl starved ↦ inl starved
             | inr stops ↦ inr (subst (λ (m : ℕ). StopsAtItem tokens conn m i d.calls d.text over) (counted ∙ ap count h.made) stops)
           ]);
@@ -244,14 +305,16 @@ module _ (tokens : Tokens) (conn : ℕ) where
   -- ---- what may be said
 
   -- The text that may be said for an item is what a connection has carried that ends there.
-  pub due_carried : (n : ℕ) (w w' : Window) (met : Met) (i : HttpItem) (asked : Asked) → GivesItem w i w' → IsAsked tokens i asked → (k : ℕ) → k ≡ conn → (calls : List Call) (text : List ℕ)
-      → IsSayableFor k n asked calls text → Leads n (ServedBy w met) (CouldEnd (Carried p)) calls text
-  due_carried n w w' met i asked g is_asked k same calls text due = λ fed called said counted s more.
+  pub due_carried : (n : ℕ) (o o' : Intake) (met : Met) (asked : Asked) → GivesKept tokens o (Some asked) o' → (k : ℕ) → k ≡ conn → (calls : List Call) (text : List ℕ)
+      → IsSayableFor k n asked calls text → Leads n (KeptBy o met) (CouldEnd (Carried p)) calls text
+  due_carried n o o' met asked g k same calls text due = λ fed called said counted s more.
+      let x = g s.reads.kept s.reads.is_kept in
+      let i = x.item in
       let h = s.handled in
-      let front = by_told w met fed s.frames s.reads in
-      let next = by_told w' met fed (s.frames ++ i ∷ []) (by_next w w' met i g fed s.frames s.reads) in
+      let front = by_told s.reads.kept met fed s.frames s.reads.reads in
+      let next = by_told x.after met fed (s.frames ++ i ∷ []) (by_next s.reads.kept x.after met i x.gives fed s.frames s.reads.reads) in
       let index = counted ∙ ap count h.made in
-      elim (say_parts tokens conn n i asked is_asked calls text (subst (λ (m : ℕ). IsSayableFor m n asked calls text) same due)) [
+      elim (say_parts tokens conn n i asked x.asks calls text (subst (λ (m : ℕ). IsSayableFor m n asked calls text) same due)) [
         | inl carries ↦
             let step : Step HttpItem = record { frames = i ∷ []; calls = calls; text = text } in
             let move : CarriesItem tokens conn (count (calls_of h.steps)) i calls text = subst (λ (m : ℕ). CarriesItem tokens conn m i calls text) index carries in
@@ -270,10 +333,6 @@ module _ (tokens : Tokens) (conn : ℕ) where
       ]
 
   -- ---- the bytes are at their end, or have a fault
-
-  -- nothing was served
-  pub served_none : (w : Window) → Reads [] [] w → w.reading.fault ≡ None → ServedBy w None [] [] []
-  served_none w reads sound = record { frames = []; handled = handled_none p refl; reads = (reads, sound) }
 
   pub none_carried : (left : Option (List ℕ)) → Carried p left [] [] [] talk.NoMemory
   none_carried left =
@@ -333,11 +392,95 @@ module _ (tokens : Tokens) (conn : ℕ) where
           is_over = (w.reading.at, e.why, all.0, refl);
         }
 
+  -- what is served stays so, where none waits
+  pub served_left : (ran : List Call → Type 0) (written written' : Option (List ℕ)) (n n' : ℕ) (From : List ℕ → List Call → List ℕ → Type 0) (o o' : Intake) (met : Met) → GivesKept tokens o None o'
+      → Done ran written written' n n' (Leads n From (KeptBy o met)) → Done ran written written' n n' (Leads n From (KeptBy o' met))
+  served_left ran written written' n n' From o o' met g d = record {
+    calls = d.calls;
+    text = d.text;
+    made = d.made;
+    wrote = d.wrote;
+    counted = d.counted;
+    is = λ fed called said counted from.
+        let s = d.is fed called said counted from in
+        let x = g s.reads.kept s.reads.is_kept in
+        record { frames = s.frames; handled = s.handled; reads = record { sound = x.sound; kept = x.after; is_kept = x.is_kept; reads = by_same s.reads.kept x.after met x.same fed s.frames s.reads.reads } };
+  }
+
+  -- ---- the same where a body may have been read past
+
+  -- what an intake with nothing refused has read
+  pub kept_new : (o : Intake) → Reads [] [] o.window → o.window.reading.fault ≡ None → o.refused ≡ None → KeptBy o None [] [] []
+  kept_new o reads sound none = record {
+    frames = [];
+    handled = handled_none p refl;
+    reads = record {
+      sound = subst (IsSound tokens o.window) (sym none) tt;
+      kept = o.window;
+      is_kept = subst (λ (x : Option Refused). IsKept o.window x o.window) (sym none) refl;
+      reads = (reads, sound);
+    };
+  }
+
+  -- no item waits in the window that would be
+  kept_none : (w : Window) (refused : Option Refused) (v : Window) → w.reading.waiting ≡ [] → IsOpen w refused → IsKept w refused v → v.reading.waiting ≡ []
+  kept_none w None v none going e = ap (λ (x : Window). x.reading.waiting) e ∙ none
+  kept_none w (Some x) v none going (body, h) = let is = subst (λ (b : Bool). HoldsBody b w x.past body v) going.0 h in ap (λ (y : Window). y.reading.waiting) is.1
+
+  -- of a request whose head is whole some bytes have come
+  head_come : (v : Window) (b : List ℕ) (items : List HttpItem) (head : Head) → v.reading.begun ≡ Some head → ReadsTo b items v.reading None → 0 < come v.reading
+  head_come v b items head is (rest, stream, holds) =
+      let r = v.reading in
+      let h = subst (λ (g : Option Head). Holds g r.stage r.body r.read r.unread rest) is holds in
+      omega (arith, h.6, some_head h.0)
+
+  module _ (o : Intake) (met : Met) (left : Option (List ℕ)) (fed : List ℕ) (calls : List Call) (text : List ℕ) (s : KeptBy o met fed calls text) where
+    pub kept_starved : (more : List ℕ) → Carried p left (fed ++ more) calls text talk.NoMemory
+    kept_starved more = ends_starved s.reads.kept met left fed calls text (bare o met fed calls text s) more
+
+    module _ (idle : IsIdle o met) where
+      nothing : s.reads.kept.reading.waiting ≡ []
+      nothing = kept_none o.window o.refused s.reads.kept idle.none idle.going s.reads.is_kept
+
+      pub kept_unread : met ≡ None → Carried p left fed calls text talk.ReadFault
+      kept_unread sound = ends_unread s.reads.kept met left fed calls text (bare o met fed calls text s) nothing sound
+
+      pub kept_too_much : met ≡ None → length fed ≡ 2 ^ 40 → Carried p left fed calls text (talk.TooMuch (2 ^ 40))
+      kept_too_much sound most = ends_too_much s.reads.kept met left fed calls text (bare o met fed calls text s) nothing sound most
+
+      pub kept_faulty : (e : HttpFault) → met ≡ Some (feed.Fault e) → Closing p (Handled p) left (talk.Fault e.at (why_of e.why)) fed calls text
+      kept_faulty e is = closing_faulty s.reads.kept met left fed calls text (bare o met fed calls text s) e nothing is
+
+      pub kept_ended : met ≡ None → IsAtEnd left → TellsRest o.window o.refused None → Closing p (Handled p) left talk.Ended fed calls text
+      kept_ended sound out tells = closing_ended s.reads.kept met left fed calls text (bare o met fed calls text s) nothing sound out (go o.refused tells s.reads.is_kept)
+        where
+          go : (x : Option Refused) → TellsRest o.window x None → IsKept o.window x s.reads.kept → come s.reads.kept.reading ≡ 0
+          go None t e = ap (λ (y : Window). come y.reading) e ∙ (t.0.0 refl).0
+          go (Some x) t e = absurd (cc)
+
+      pub kept_truncated : (at : ℕ) → met ≡ None → IsAtEnd left → TellsRest o.window o.refused (Some at) → Closing p (Handled p) left (talk.Truncated at) fed calls text
+      kept_truncated at sound out tells =
+          let by : ReadsBy s.reads.kept None fed s.frames = subst (λ (m : Met). ReadsBy s.reads.kept m fed s.frames) sound s.reads.reads in
+          let r : ReadsTo fed (s.frames ++ s.reads.kept.reading.waiting) s.reads.kept.reading None = subst (λ (f : Option HttpFault). ReadsTo fed (s.frames ++ s.reads.kept.reading.waiting) s.reads.kept.reading f) by.1 by.0 in
+          let x = go o.refused idle.going tells s.reads.is_kept r by.1 in
+          subst (λ (n : ℕ). Closing p (Handled p) left (talk.Truncated n) fed calls text) x.0 (closing_truncated s.reads.kept met left fed calls text (bare o met fed calls text s) nothing sound out x.1)
+        where
+          go : (x : Option Refused) → IsOpen o.window x → TellsRest o.window x (Some at) → IsKept o.window x s.reads.kept → ReadsTo fed (s.frames ++ s.reads.kept.reading.waiting) s.reads.kept.reading None → s.reads.kept.reading.fault ≡ None
+              → (s.reads.kept.reading.at ≡ at) × (0 < come s.reads.kept.reading)
+          go None going t e r none =
+              let w = o.window in
+              let some : (come w.reading ≡ 0 → ⊥) = λ empty. let n = t.0.1 (empty, ap (λ (y : Window). y.reading.fault) (sym e) ∙ none) in cc in
+              (ap (λ (y : Window). y.reading.at) e ∙ sym t.1, subst (λ (y : Window). 0 < come y.reading) (sym e) (some_come _ some))
+          go (Some x) going t (body, h) r none =
+              let is = subst (λ (b : Bool). HoldsBody b o.window x.past body s.reads.kept) going.0 h in
+              let at_is : at ≡ x.past.at = some_same at x.past.at t in
+              (ap (λ (y : Window). y.reading.at) is.1 ∙ sym at_is, head_come s.reads.kept fed _ x.past.head (ap (λ (y : Window). y.reading.begun) is.1) r)
+
   -- a connection may end here for want of more
-  pub may_end : (w : Window) (met : Met) → w.reading.waiting ≡ [] → met ≡ None → MayEnd (ServedBy w met) (Carried p)
-  may_end w met none sound = record {
-    read_fault = λ left fed calls text s. ends_unread w met left fed calls text s none sound;
-    too_much = λ left fed calls text s most. ends_too_much w met left fed calls text s none sound most;
+  pub kept_may_end : (o : Intake) (met : Met) → IsIdle o met → met ≡ None → MayEnd (KeptBy o met) (Carried p)
+  kept_may_end o met idle sound = record {
+    read_fault = λ left fed calls text s. kept_unread o met left fed calls text s idle sound;
+    too_much = λ left fed calls text s most. kept_too_much o met left fed calls text s idle sound most;
   }
 
   -- ---- the last reply
@@ -363,14 +506,9 @@ module _ (tokens : Tokens) (conn : ℕ) where
         carried_instead p left fed c.frames c.at called said c.handled c.front over [] part instead move c.is_over
         (inr (subst (λ (t : Talk). p.StopsLast c.handled.steps c.handled.held t [] part instead) (sym is) (subst (λ (t : Talk). p.StopsLast c.handled.steps c.handled.held (talk.Fault at why) [] part t) (sym e) (refl, cut))))
 
-pub some_come : (n : ℕ) → (n ≡ 0 → ⊥) → 0 < n
-some_come zero h = absurd (h refl)
-some_come (suc n) h = omega arith
-
--- what a session has served, by the tokens, the window and what it has met as they are now
-pub served_same : (ran : List Call → Type 0) (written written' : Option (List ℕ)) (n n' : ℕ) (From : List ℕ → List Call → List ℕ → Type 0) (conn : ℕ) (core core' : Tokens) (w w' : Window) (met met' : Met) → core' ≡ core → w' ≡ w → met' ≡ met
-    → Done ran written written' n n' (Leads n From (Served (Handled (hec core conn)) (ReadsBy w met))) → Done ran written written' n n' (Leads n From (Served (Handled (hec core' conn)) (ReadsBy w' met')))
-served_same ran written written' n n' From conn core core' w w' met met' same_core same_window same_met d =
-    subst (λ (t : Tokens). Done ran written written' n n' (Leads n From (Served (Handled (hec t conn)) (ReadsBy w' met')))) (sym same_core)
-    (subst (λ (v : Window). Done ran written written' n n' (Leads n From (Served (Handled (hec core conn)) (ReadsBy v met')))) (sym same_window)
-    (subst (λ (m : Met). Done ran written written' n n' (Leads n From (Served (Handled (hec core conn)) (ReadsBy w m)))) (sym same_met) d))
+-- what a session has served, by the tokens and what it has met as they are now
+pub served_same : (ran : List Call → Type 0) (written written' : Option (List ℕ)) (n n' : ℕ) (From : List ℕ → List Call → List ℕ → Type 0) (conn : ℕ) (core core' : Tokens) (o : Intake) (met met' : Met) → core' ≡ core → met' ≡ met
+    → Done ran written written' n n' (Leads n From (Served (Handled (hec core conn)) (ReadsKept core o met))) → Done ran written written' n n' (Leads n From (Served (Handled (hec core' conn)) (ReadsKept core' o met')))
+served_same ran written written' n n' From conn core core' o met met' same_core same_met d =
+    subst (λ (t : Tokens). Done ran written written' n n' (Leads n From (Served (Handled (hec t conn)) (ReadsKept t o met')))) (sym same_core)
+    (subst (λ (m : Met). Done ran written written' n n' (Leads n From (Served (Handled (hec core conn)) (ReadsKept core o m)))) (sym same_met) d)

@@ -23,6 +23,7 @@ pub mod Acknowledged
 mod HecEntries
 mod HecActing
 mod HecFronts
+mod HecIntake
 mod HecSessions
 pub mod HecAcks
 pub mod Durable

@@ -1,5 +1,5 @@
 -- What a session of the collector has read and served, and what its functions do for an item.
-use Rattle.std.specs.Prelude.{◌≡◌, ◌≢◌, ◌⊎◌, ℕ, ◌<◌, Bool, false, List, [], ◌∷◌, ◌++◌, Option, Some, None, Ok, Err}
+use Rattle.std.specs.Prelude.{◌≡◌, ◌⊎◌, ℕ, ◌<◌, Bool, false, List, [], ◌∷◌, ◌++◌, Option, Some, None, Ok, Err}
 use Rattle.event_form.specs.declared.event.Event.{Event}
 use Rattle.event_form.specs.declared.feed_fault.FeedFault.{FeedFault}
 use Rattle.event_form.specs.declared.feed_fault.FeedFault.TheVariants as feed
@@ -34,12 +34,6 @@ abbrev pub ReadsBy : Window → Option (FeedFault HttpFault) → List ℕ → Li
 ReadsBy w None b items = Reads b items w × (w.reading.fault ≡ None)
 ReadsBy w (Some (feed.Fault e)) b items = Reads b items w × (w.reading.fault ≡ Some e)
 ReadsBy w (Some feed.NoMemory) b items = (front : List ℕ) × (more : List ℕ) × (b ≡ front ++ more) × Reads front items w
-
--- no item waits in the window, there is room for more bytes, and memory was found so far
-pub record IsIdle (w : Window) (met : Option (FeedFault HttpFault)) : Type 0 where
-  pub none : w.reading.waiting ≡ []
-  pub space : held_of w < 1064960
-  pub found : met ≢ Some feed.NoMemory
 
 -- what the item asks for, and whether the connection ends with the answer
 abbrev pub IsAsked : Tokens → HttpItem → Asked → Type 0

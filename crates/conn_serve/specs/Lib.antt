@@ -11,6 +11,7 @@ pub mod Hec
 pub mod Terms
 pub mod Memory
 pub mod HecServing
+pub mod HecReading
 pub mod Serves
 pub mod Says
 pub mod Groups

@@ -1,5 +1,5 @@
 //! How a session gets the bytes of its connection.
-ghost use Rattle.std.specs.Prelude.{◌≡◌, ◌⊎◌, ◌+◌, ◌<◌, ◌≤◌, ◌^◌, ℕ, List, ◌++◌, Option, None, length, IfOk, IfErr, OnOk, IsErrOf};
+ghost use Rattle.std.specs.Prelude.{◌≡◌, ◌↔◌, ◌⊎◌, ◌+◌, ◌<◌, ◌≤◌, ◌^◌, ℕ, List, ◌++◌, Option, None, length, IfOk, IfErr, OnOk, IsErrOf, IsTrue};
 ghost use Rattle.std.specs.Io.KnownBytes.{Appends, IsAtEnd, ReadConsumes, WriteAppends};
 ghost use Rattle.foundation.specs.Faults.{HasCause};
 ghost use Rattle.desk_access.specs.Endings.{IsAtMove};
@@ -43,6 +43,24 @@ fn next_piece(group: bool, asked: usize, came: usize) -> usize
     } else {
         LONG_PIECE
     }
+}
+
+/// How many bytes a read brought, as the next one is fitted to it: none where it asked for many and the peer has been silent since.
+pub fn heard<L: Link>(link: &L, asked: usize, came: usize) -> usize
+    ensures { (result ≡ came) ⊎ ((8192 < asked) × (result ≡ 0)) }
+{
+    if asked > PIECE && link.is_silent() {
+        0
+    } else {
+        came
+    }
+}
+
+/// Whether the next read may ask for many bytes: the events of one piece are stored as one group, and no body is read past.
+pub fn may_be_long<S: Session>(group: bool, session: &S) -> bool
+    ensures { IsTrue result ↔ (IsTrue group × (S.passes session.now → ⊥)) }
+{
+    group && !session.is_passing()
 }
 
 /// Fits the memory of reads to what the last one brought, so that a connection which is quiet keeps little of it: it is as long as the
@@ -104,10 +122,10 @@ pub fn take_in<L: Link, A: Access, S: Session>(
 }
 
 // Reads once, as the link does, and claims what memory the session takes: before the read for what it holds, and after it for what it
-// is then fed, of which nothing is served before there is room.
+// is then fed, of which nothing is served before there is room. Before a short read the session gives back first what it doesn't need.
 fn read_next<L: Link, S: Session>(
     link: &mut L,
-    session: &S,
+    session: &mut S,
     buf: &mut [u8],
 ) -> Result<usize, ReadFault>
     requires some { 0 < length buf.old }
@@ -117,8 +135,10 @@ fn read_next<L: Link, S: Session>(
     ensures cause { HasCause (L.read_faults link.old) (L.read_faults link.new) result }
     ensures same { L.same link.old link.new }
     ensures apart { L.read_apart link.old link.new }
+    ensures rests { session.new ≡ session.old }
 {
     let asked = buf.len();
+    session.rest(asked);
     link.claim(session.need(asked, 0));
     let len = match link.read(buf) {
         Ok(len) => len,

@@ -2,6 +2,7 @@
 mod act;
 mod asked;
 mod ids;
+mod intake;
 mod last;
 mod replies;
 pub(crate) mod session;

@@ -1,5 +1,5 @@
 //! How much memory a connection takes.
-ghost use Rattle.std.specs.Prelude.{◌≡◌, ◌+◌};
+ghost use Rattle.std.specs.Prelude.{◌≡◌, ◌↔◌, ◌+◌, ◌≤◌, IsTrue};
 ghost use Rattle.conn_serve.specs.Memory.{need_of};
 
 // How many bytes a connection holds at most that takes little memory.
@@ -10,6 +10,13 @@ const LEAST: u64 = 16_384;
 
 // How many bytes the smallest events take for each byte in which they come.
 const EACH: u64 = 32;
+
+/// Whether a read asks for no more than a short one.
+pub fn is_short(asked: usize) -> bool
+    ensures { IsTrue result ↔ (asked ≤ 8192) }
+{
+    asked <= FEW
+}
 
 /// How many bytes of memory a connection takes at most where its reads ask for `asked` bytes, so many are held of it and `more` come: the
 /// `whole` that one by its protocol may take, or less where these are few.

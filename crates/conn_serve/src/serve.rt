@@ -9,7 +9,7 @@ ghost use Rattle.conn_serve.specs.Says.{HasCarried, MaySay};
 ghost use Rattle.conn_serve.specs.Serves.{CarriedBy, Serves};
 
 use crate::connection::Connection;
-use crate::feed::{buffer, fit, turn};
+use crate::feed::{buffer, fit, heard, may_be_long, turn};
 use crate::hec::session::HecSession;
 use crate::lumberjack::session::LumberSession;
 use crate::relp::session::RelpSession;
@@ -74,7 +74,7 @@ fn close<L: Link, A: Access, S: Session>(
 // Serves the connection to its end. The order in which endings are judged stands here: what a frame
 // that waits asks for, then the fault of the bytes, the end of the input, a read that fails, and the
 // most bytes that a connection may have. Each read fills `buf` from its beginning; `buf` is fitted to what comes, by whether the events of
-// one piece are stored as one group.
+// one piece are stored as one group, and whether what comes is read past.
 fn run<L: Link, A: Access, S: Session>(
     alloc: Global,
     link: &mut L,
@@ -109,10 +109,12 @@ fn run<L: Link, A: Access, S: Session>(
             Err(talk) => return talk,
         };
         total += len as u64;
-        fit(alloc, buf, group, len);
         if let Some(talk) = over(session, len) {
             return close(link, access, connection, session, talk);
         }
+        let came = heard(link, buf.len(), len);
+        let long = may_be_long(group, session);
+        fit(alloc, buf, long, came);
     }
     Talk::TooMuch { at: LIMIT }
 }
@@ -191,7 +193,8 @@ fn attend_by<L: Link, A: Access>(
 }
 
 /// Serves one connection to its end, by the protocol of the rules. It reads pieces of at most 8,192 bytes, or
-/// of 65,536 where the rules say that events of one piece are stored together and the pieces before were full, tells
+/// of 65,536 where the rules say that events of one piece are stored together, the pieces before were full, no body is read past and the
+/// peer isn't silent, tells
 /// the link what memory that takes, and does what the protocol's table says for each whole frame, one after another. `conn` is the connection's number in the spool; its
 /// entries are counted from 0. Each text is written as one piece. `carried` says which bytes were read, each a
 /// number below 256, which calls were made on the desk, which bytes were written, and how many entries were

@@ -1,6 +1,6 @@
 //! What a protocol does with the bytes of its connection.
-ghost use Rattle.std.specs.Prelude.{◌≡◌, ◌+◌, ◌<◌, ◌≤◌, ◌^◌, ℕ, List, ◌++◌, length, take, Option};
-ghost use Rattle.std.specs.Prelude.{OnOk, IfErr, IfSome, IfNone, IsErrOf};
+ghost use Rattle.std.specs.Prelude.{◌≡◌, ◌↔◌, ◌+◌, ◌<◌, ◌≤◌, ◌^◌, ℕ, List, ◌++◌, length, take, Option};
+ghost use Rattle.std.specs.Prelude.{OnOk, IfErr, IfSome, IfNone, IsErrOf, IsTrue};
 ghost use Rattle.std.specs.Io.KnownBytes.{IsAtEnd};
 ghost use Rattle.event_form.specs.declared.talk.Talk.{Talk};
 ghost use Rattle.desk_access.specs.Call.{Call};
@@ -50,6 +50,18 @@ pub trait Session {
     /// `more` bytes after that were served.
     fn need(&self, asked: usize, more: usize) -> u64
         ensures { result ≡ takes self.now asked more };
+
+    /// Gives back memory that a window took, where the next read asks for `asked` bytes, no more than a short one, and no more are held.
+    /// Nothing else changes.
+    fn rest(&mut self, asked: usize)
+        ensures { self.new ≡ self.old };
+
+    /// The bytes that come next are read past, and nothing is kept of them.
+    ghost passes: { Self → Type 0 };
+
+    /// Whether the bytes that come next are read past, so that there is no use in reading many of them at once.
+    fn is_passing(&self) -> bool
+        ensures { IsTrue result ↔ passes self.now };
 
     /// Adds as much of the next bytes as there is room for, at least one of them if there are any, and
     /// answers how many. Where they have a fault, it answers that it took them all. It takes no memory.

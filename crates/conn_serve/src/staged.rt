@@ -8,7 +8,7 @@ use std::alloc::{AllocError, Global};
 /// are freed, so that what is kept for a batch stays small.
 const SPARE_BYTES: usize = 256;
 
-/// The memory of how many texts is kept at most.
+/// The memory of how many entries and texts is kept at most.
 const MOST_SPARE: usize = 64;
 
 /// What is staged, and the memory for the texts that are staged next.
@@ -50,7 +50,7 @@ impl Staged {
     }
 
     /// What was staged is stored: nothing is staged any more. It takes memory only to keep that of the
-    /// texts, and where there is none it frees them.
+    /// texts, and where there is none it frees them. Of a long batch it frees what its entries took.
     pub fn stored(&mut self)
         ensures empty { self.new.entries.items ≡ [] }
         ensures last { self.new.last ≡ self.old.last }
@@ -61,5 +61,6 @@ impl Staged {
                 let _ = self.spare.push(bytes);
             }
         }
+        self.entries.shrink_to(MOST_SPARE);
     }
 }

@@ -4,9 +4,12 @@ ghost use Rattle.foundation.specs.Bytes.{part, put};
 ghost use Rattle.edge_disk.specs.Calls.{Calls};
 ghost use Rattle.edge_disk.specs.Disk.{Moment, IsSettled, Remembers, IsUntouched, IsTorn, IsLawful};
 
+use thiserror::Error;
+
 /// A call on a disk failed. The disk's count of faults rose in that call; a call that doesn't answer this
 /// failed at nothing.
-#[derive(Clone, Copy, Debug, PartialEq, Eq)]
+#[derive(Clone, Copy, PartialEq, Eq, Debug, Drop, Error)]
+#[error("disk fault")]
 pub struct DiskFault;
 
 /// A disk of a fixed length in bytes, with reads, writes and a sync. Offsets count bytes from 0.

@@ -6,12 +6,15 @@ ghost use Rattle.edge_io.specs.Counts.{Gains};
 ghost use Rattle.edge_io.specs.Told.{IsToldAs, IsFresh, Adds};
 ghost use Rattle.edge_io.specs.Door.{DoorState, TakesLink, SameLinks, SameTalks, SameDoor, IsTalk, StaysPermitted};
 
-use crate::{Link, Proto, Shortage};
+use crate::{Link, Proto};
+use event_form::Talk;
 use std::alloc::AllocError;
+use thiserror::Error;
 
 /// An accept failed. The door's own count of faults says how often that was; an accept that doesn't
 /// answer this failed at nothing.
-#[derive(Clone, Copy, Debug, PartialEq, Eq)]
+#[derive(Clone, Copy, PartialEq, Eq, Debug, Drop, Error)]
+#[error("net fault")]
 pub struct AcceptFault;
 
 /// An object that accepts links, and is given each one back when it was served. It may tell which links
@@ -27,10 +30,10 @@ pub trait Door {
     /// What may be written to the link that it gives after so many others, by what was read from that link.
     ghost permits: { Self → ℕ → List ℕ → List ℕ → Type 0 };
 
-    /// Waits for a link and accepts it. `None`: the door is shut for good, as no link waits. A link that is
-    /// given counts as accepted, waits no more, and has given and taken no byte. After a fault no link
+    /// Waits for a link and accepts it, which is to be served as the connection of this number. `None`: the
+    /// door is shut for good, as no link waits. A link that is given counts as accepted, waits no more, and has given and taken no byte. After a fault no link
     /// was accepted, and the door's own count of faults has risen.
-    fn accept(&mut self) -> Result<Option<Self::L>, AcceptFault>
+    fn accept(&mut self, conn: u64) -> Result<Option<Self::L>, AcceptFault>
         ensures link { IfOk result (λ o. IfSome o (λ _. TakesLink (told self.old) (told self.new))) }
         ensures fresh { IfOk result (λ o. IfSome o (λ link. IsFresh (told self.old).talks
             (Self.L.given link) (Self.L.taken link) (Self.L.left link))) }
@@ -43,11 +46,10 @@ pub trait Door {
         ensures stays { StaysPermitted result (permits self.old) (permits self.new) }
         ensures cause { HasCause (told self.old).accept_faults (told self.new).accept_faults result };
 
-    /// Takes a link that was served, of which `proto` is the protocol, `conn` the connection's number and
-    /// `status` the status of its ending, and lets it go. `shortage` is what lacked, where it ended since an event could not be stored and
-    /// nothing had failed. One connection more is told: these three, the bytes
-    /// that the link has given and taken, and how many it has left. The link's faults are added to the
-    /// door's counts. The error is want of memory: the link is gone and its faults are counted, but the
+    /// Takes a link that was served, of which `proto` is the protocol, `conn` the connection's number,
+    /// `status` the status of its ending and `talk` the ending itself, and lets it go. One connection more is
+    /// told: protocol, number and status, the bytes that the link has given and taken, and how many it has
+    /// left. The link's faults are added to the door's counts. The error is want of memory: the link is gone and its faults are counted, but the
     /// list that is told is as before.
     fn give_back(
         &mut self,
@@ -55,7 +57,7 @@ pub trait Door {
         proto: Proto,
         conn: u64,
         status: u8,
-        shortage: Option<Shortage>,
+        talk: Talk,
     ) -> Result<(), AllocError>
         ensures adds { OnOk result (Adds (told self.old).talks (told self.new).talks
             (IsTalk proto conn status (Self.L.given link) (Self.L.taken link) (Self.L.left link))) }

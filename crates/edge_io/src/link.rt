@@ -3,8 +3,8 @@ ghost use Rattle.std.specs.Prelude.{◌≡◌, ℕ, List, Option};
 
 use crate::{Sink, Source};
 
-/// A source and a sink in one, as a connection is. It says that neither way meets the other, and has one call of its own, by which a
-/// connection tells how much memory it takes.
+/// A source and a sink in one, as a connection is. It says that neither way meets the other, and has two calls of its own: by one a
+/// connection tells how much memory it takes, by the other it asks whether its peer is silent.
 pub trait Link: Source + Sink {
     /// The place at which it was dialed, where it tells it. A link that was accepted tells none.
     ghost dialed: { Self → Option (List ℕ) };
@@ -16,6 +16,11 @@ pub trait Link: Source + Sink {
         ensures reads { Self.read_apart self.old self.new }
         ensures writes { Self.write_apart self.old self.new }
     {}
+
+    /// Whether nothing comes from the peer for now, for which it may wait a while. Where it isn't known nobody is said to be silent.
+    fn is_silent(&self) -> bool {
+        false
+    }
 
     /// A read leaves what the sink tells as it was, and the place.
     ghost reads_keep: { (x y : Self) → Self.read_apart x y

@@ -5,7 +5,8 @@ ghost use Rattle.std.specs.VecDeque.{deque_len};
 ghost use Rattle.edge_io.specs.MemLink.{is_unused};
 
 use crate::script::Script;
-use crate::{AcceptFault, Door, MemLink, Proto, Shortage};
+use crate::{AcceptFault, Door, MemLink, Proto};
+use event_form::Talk;
 use std::alloc::{AllocError, Global};
 use std::collections::VecDeque;
 
@@ -111,7 +112,7 @@ impl Door for MemDoor {
     ghost permits = { λ _ _ _ _. Unit {0} };
 
     /// The accept fails exactly where its number is listed, and else gives the first of the links that wait.
-    fn accept(&mut self) -> Result<Option<MemLink>, AcceptFault>
+    fn accept(&mut self, _: u64) -> Result<Option<MemLink>, AcceptFault>
         ensures link { IfOk result (λ o. IfSome o (λ _. TakesLink (state_of self.old) (state_of self.new))) }
         ensures fresh { IfOk result (λ o. IfSome o (λ link. IsFresh (state_of self.old).talks
             (Some (given_of (source_of link))) (Some (taken_of (sink_of link))) (Some (left_of (source_of link))))) }
@@ -136,7 +137,7 @@ impl Door for MemDoor {
         proto: Proto,
         conn: u64,
         status: u8,
-        _: Option<Shortage>,
+        _: Talk,
     ) -> Result<(), AllocError>
         ensures adds { OnOk result (Adds (state_of self.old).talks (state_of self.new).talks
             (IsTalk proto conn status (Some (given_of (source_of link))) (Some (taken_of (sink_of link)))

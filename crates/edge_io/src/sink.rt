@@ -5,10 +5,12 @@ ghost use Rattle.foundation.specs.Faults.{HasCause};
 ghost use Rattle.edge_io.specs.Told.{Lasts, MayFollow};
 
 use crate::Object;
+use thiserror::Error;
 
 /// A write failed. The sink's count of faults says how often that was; a write that doesn't answer this
 /// failed at nothing.
-#[derive(Clone, Copy, PartialEq, Eq)]
+#[derive(Clone, Copy, PartialEq, Eq, Debug, Drop, Error)]
+#[error("write fault")]
 pub struct WriteFault;
 
 /// An object that takes bytes. It may tell which bytes it has taken; one that tells nothing, as a

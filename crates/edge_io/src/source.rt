@@ -4,10 +4,12 @@ ghost use Rattle.std.specs.Io.KnownBytes.{ReadConsumes, WriteAppends};
 ghost use Rattle.foundation.specs.Faults.{HasCause};
 
 use crate::Object;
+use thiserror::Error;
 
 /// A read failed. The source's count of faults says how often that was; a read that doesn't answer this
 /// failed at nothing.
-#[derive(Clone, Copy, Debug, PartialEq, Eq)]
+#[derive(Clone, Copy, PartialEq, Eq, Debug, Drop, Error)]
+#[error("read fault")]
 pub struct ReadFault;
 
 /// An object that gives bytes. It may tell which bytes it has given and which are left; one that tells

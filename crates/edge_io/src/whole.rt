@@ -5,9 +5,11 @@ ghost use Rattle.foundation.specs.Faults.{HasCause};
 ghost use Rattle.edge_io.specs.Told.{MayFollow};
 
 use crate::Sink;
+use thiserror::Error;
 
 /// A write failed before the whole piece was taken.
-#[derive(Clone, Copy, Debug, PartialEq, Eq)]
+#[derive(Clone, Copy, PartialEq, Eq, Debug, Drop, Error)]
+#[error("write fault")]
 pub struct Stopped {
     /// How many bytes of the piece were taken: its first ones, and not all.
     pub sent: usize,

@@ -1,5 +1,6 @@
 pub mod Answer
 pub mod Budget
+pub mod Ending
 pub mod Fullness
 pub mod Pace
 pub mod Page

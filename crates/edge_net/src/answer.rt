@@ -55,6 +55,9 @@ fn frame_code(bytes: &[u8]) -> Option<u16> {
 // What stands before the number of a reply's reason in its body.
 const REASON: &[u8] = b"\"code\":";
 
+// The field of a reply after which its connection ends.
+const CLOSES: &[u8] = b"Connection: close\r\n";
+
 // The number that the bytes begin with.
 fn number_at(bytes: &[u8]) -> u16 {
     let mut number = 0u16;
@@ -68,15 +71,25 @@ fn number_at(bytes: &[u8]) -> u16 {
     number
 }
 
-/// The number by which a reply of the collector says why it refuses ("Troubleshoot HTTP Event Collector", possible error codes), where its
-/// body has one.
-pub(crate) fn reason_in(reply: &[u8]) -> Option<u16> {
-    for at in 0..reply.len() {
-        if let Some(number) = reply[at..].strip_prefix(REASON) {
-            return Some(number_at(number));
+// What stands after these bytes, where they come first.
+fn after<'a>(bytes: &'a [u8], mark: &[u8]) -> Option<&'a [u8]> {
+    for at in 0..bytes.len() {
+        if let Some(rest) = bytes[at..].strip_prefix(mark) {
+            return Some(rest);
         }
     }
     None
+}
+
+/// The number by which a reply of the collector says why it refuses ("Troubleshoot HTTP Event Collector", possible error codes), where its
+/// body has one.
+pub(crate) fn reason_in(reply: &[u8]) -> Option<u16> {
+    Some(number_at(after(reply, REASON)?))
+}
+
+/// Whether a reply says that it is the last one of its connection (RFC 9112, section 9.6).
+pub(crate) fn closes(reply: &[u8]) -> bool {
+    after(reply, CLOSES).is_some()
 }
 
 impl Answer {

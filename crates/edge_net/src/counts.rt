@@ -1,6 +1,8 @@
 //! What a net counts, for those who ask for numbers.
+use crate::ending::is_full;
 use crate::{Answer, FileCounts, Since};
-use edge_io::{HeldUp, Proto, Shortage};
+use edge_io::{HeldUp, Proto};
+use event_form::Talk;
 use std::alloc::{AllocError, Global};
 use std::sync::OnceLock;
 use std::sync::atomic::{AtomicU64, Ordering};
@@ -70,9 +72,9 @@ impl Connections {
         self.accepted.add();
     }
 
-    /// That one has ended, by this protocol and with this status, and what lacked then, if anything did.
-    pub(crate) fn end(&self, proto: Proto, status: u8, shortage: Option<Shortage>) {
-        if shortage == Some(Shortage::Room) {
+    /// That one has ended, by this protocol, with this status and so.
+    pub(crate) fn end(&self, proto: Proto, status: u8, talk: Talk) {
+        if is_full(talk) {
             self.without_room.add();
         }
         let _ = self.proto.try_set(proto);

@@ -3,8 +3,10 @@ ghost use Rattle.std.specs.Prelude.{◌≡◌};
 
 use crate::accepting::next_connection;
 use crate::roll::{Place, Roll};
+use crate::watch::Peer;
 use crate::{Reports, TcpLink, Waits};
-use edge_io::{AcceptFault, Door, Proto, Shortage};
+use edge_io::{AcceptFault, Door, Proto};
+use event_form::Talk;
 use std::alloc::AllocError;
 use std::io;
 use std::net::{SocketAddr, TcpListener, TcpStream};
@@ -109,7 +111,7 @@ impl<'a, R: Clock + Eprint> Door for TcpDoor<'a, R> {
     ///
     /// The first accept waits until all doors of the net have begun, for three seconds at most, and then reports the places
     /// of those that have not: the system refused them a thread.
-    fn accept(&mut self) -> Result<Option<TcpLink<'a, R>>, AcceptFault> {
+    fn accept(&mut self, conn: u64) -> Result<Option<TcpLink<'a, R>>, AcceptFault> {
         if !self.has_begun {
             self.has_begun = true;
             self.shared.begin();
@@ -119,6 +121,10 @@ impl<'a, R: Clock + Eprint> Door for TcpDoor<'a, R> {
                 let (rt, reports) = (self.shared.rt, self.shared.reports);
                 let waits = self.shared.waits;
                 reports.budget().admit(rt, reports.is_quiet());
+                let peer = Peer {
+                    address: peer,
+                    conn,
+                };
                 Ok(Some(TcpLink::accepted(rt, reports, stream, peer, waits)))
             }
             Err(_) => {
@@ -138,12 +144,12 @@ impl<'a, R: Clock + Eprint> Door for TcpDoor<'a, R> {
         proto: Proto,
         _: u64,
         status: u8,
-        shortage: Option<Shortage>,
+        talk: Talk,
     ) -> Result<(), AllocError> {
         self.read_errors = self.read_errors.saturating_add(link.read_errors());
         self.write_errors = self.write_errors.saturating_add(link.write_errors());
-        self.shared.place.connections.end(proto, status, shortage);
-        link.close_served(self.shared.rt, proto, status, shortage);
+        self.shared.place.connections.end(proto, status, talk);
+        link.close_served(self.shared.rt, proto, status, talk);
         Ok(())
     }
 }

@@ -4,16 +4,23 @@ ghost use Rattle.std.specs.Prelude.{◌≡◌, ◌≤◌, length, IfOk};
 use crate::budget::{Budget, Part, part_of};
 use crate::closing::close_after_peer;
 use crate::trouble::{Way, is_reset};
-use crate::watch::Watch;
+use crate::watch::{Peer, Watch};
 use crate::{Reports, Waits};
-use edge_io::{Link, Object, Proto, ReadFault, Shortage, Sink, Source, WriteFault};
+use edge_io::{Link, Object, Proto, ReadFault, Sink, Source, WriteFault};
+use event_form::Talk;
+use libc::net::{POLLIN, poll};
+use libc::types::pollfd;
 use std::io::{self, ErrorKind, Read, Write};
-use std::net::{SocketAddr, TcpStream};
+use std::net::TcpStream;
+use std::os::fd::AsRawFd;
 use std::rt::Clock;
 use std::time::Duration;
 
 // How many times a call is made, where signals interrupt it each time.
 const MOST_TRIES: u32 = 1_000;
+
+// How long a peer sends nothing that is said to be silent, in milliseconds.
+const SILENT_MILLIS: i32 = 1_000;
 
 // How long a sender may be silent whose connection takes much memory while another one waits for some, in seconds.
 const TURN_SECONDS: u64 = 10;
@@ -90,7 +97,7 @@ impl<'a, R> TcpLink<'a, R> {
         rt: &'a R,
         reports: &'a Reports,
         stream: TcpStream,
-        peer: SocketAddr,
+        peer: Peer,
         waits: Waits,
     ) -> TcpLink<'a, R>
         ensures unfailed { IsUnfailed result }
@@ -174,12 +181,11 @@ impl<R> TcpLink<'_, R> {
 }
 
 impl<R: Clock + Eprint> TcpLink<'_, R> {
-    /// Says how the connection ended, where that isn't well: it was served to its end by this protocol, and the exit status that
-    /// stands for its ending is this one, and this lacked then, if anything did. Then gives its memory back, and closes it so that its peer
-    /// gets what was written last. What the peer still sends
+    /// Says how the connection ended, where that isn't well: it was served to its end by this protocol and ended so, which this exit
+    /// status stands for. Then gives its memory back, and closes it so that its peer gets what was written last. What the peer still sends
     /// meanwhile is dropped, and counts as unread.
-    pub(crate) fn close_served(self, rt: &R, proto: Proto, status: u8, shortage: Option<Shortage>) {
-        self.watch.ended(proto, status, shortage);
+    pub(crate) fn close_served(self, rt: &R, proto: Proto, status: u8, talk: Talk) {
+        self.watch.ended(proto, status, talk);
         self.reports.budget().dismiss(self.part);
         close_after_peer(rt, self.stream)
     }
@@ -373,6 +379,16 @@ impl<R: Clock + Eprint> Link for TcpLink<'_, R> {
                 self.wait_in_turns();
             }
         }
+    }
+
+    /// Waits for the peer for a second, and leaves what comes, and how the connection ends, for the next read.
+    fn is_silent(&self) -> bool {
+        let mut waits = [pollfd {
+            fd: self.stream.as_raw_fd(),
+            events: POLLIN,
+            revents: 0,
+        }];
+        poll(&mut waits, SILENT_MILLIS) == 0
     }
 
     ghost reads_keep = { λ x y same. (Prim.cc, same.0, same.1) };

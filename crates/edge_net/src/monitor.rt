@@ -184,7 +184,8 @@ impl<R: Clock + Eprint> TcpMonitor<'_, R> {
         }
     }
 
-    // Looks at the numbers, and says what is pending at the first look, and whether the spool is full where that changed. Whether it is full.
+    // Looks at the numbers, and says what is pending at the first look, whether the spool is full where that changed, and which places have
+    // as many connections as they serve at once. Whether it is full.
     fn look_at(&mut self, numbers: &SpoolNumbers, now: u64) -> bool {
         let is_full = self.fullness.look(numbers, self.roll.without_room());
         self.ages.look(numbers, now);
@@ -195,6 +196,7 @@ impl<R: Clock + Eprint> TcpMonitor<'_, R> {
             self.reports.fills(self.rt, is_full);
         }
         self.was_full = is_full;
+        self.roll.report_busy(self.rt);
         self.next_look = Some(now.saturating_add(LOOK_MILLIS));
         is_full
     }

@@ -184,7 +184,7 @@ impl<R: Clock + Eprint> Pause for TcpNet<'_, R> {
     ghost pause_apart = { λ x y. state_of y ≡ state_of x };
 
     /// Sleeps for a second. Once all pauses and short waits took three seconds, the places that lack a thread are reported too, as
-    /// where those who accept wait for this thread to end.
+    /// where those who accept wait for this thread to end. A place whose doors all have connections is reported once a minute.
     fn pause(&mut self) {
         self.wait_for(PAUSE)
     }
@@ -241,7 +241,8 @@ fn connected<R: net::Net<Stream = TcpStream>>(
 impl<R: Clock + Eprint> TcpNet<'_, R> {
     ghost use Rattle.edge_net.specs.TcpNet.{state_of};
 
-    // Sleeps for so many twentieths of a second, and reports the places that lack a thread where it is due.
+    // Sleeps for so many twentieths of a second, and reports the places that lack a thread, and those whose doors all have connections,
+    // where it is due.
     fn wait_for(&mut self, twentieths: u32)
         ensures { state_of self.new ≡ state_of self.old }
     {
@@ -249,12 +250,13 @@ impl<R: Clock + Eprint> TcpNet<'_, R> {
         thread::sleep(self.rt, Duration::from_millis(millis));
         let before = self.waited;
         self.waited = before.saturating_add(twentieths);
-        if before < ROLL_REPORT
-            && self.waited >= ROLL_REPORT
-            && let Some(roll) = &self.roll
-        {
+        let Some(roll) = &self.roll else {
+            return;
+        };
+        if before < ROLL_REPORT && self.waited >= ROLL_REPORT {
             roll.report_missing(self.rt);
         }
+        roll.report_busy(self.rt);
     }
 }
 

@@ -2,7 +2,7 @@
 ghost use Rattle.std.specs.Prelude.{◌≡◌, ◌↔◌, ◌<◌, ◌≤◌, ◌+◌, ◌^◌, ◌⊎◌, Some, IsTrue, IfSome, IfNone, IsSomeAnd, MatchOption, slice_get};
 
 use crate::{Matter, Pace, Topic, Trouble};
-use edge_io::Shortage;
+use event_form::Talk;
 use std::fmt;
 use std::net::IpAddr;
 
@@ -37,11 +37,22 @@ fn same_reason(one: Option<u16>, other: Option<u16>) -> bool
     one == other
 }
 
-// Whether the same lacked, or nothing.
-fn same_shortage(one: Option<Shortage>, other: Option<Shortage>) -> bool
+// Whether both are one ending.
+fn same_talk(one: Talk, other: Talk) -> bool
     ensures { IsTrue result ↔ (one ≡ other) }
 {
     one == other
+}
+
+// Whether both have one ending, or none.
+fn same_end(one: Option<Talk>, other: Option<Talk>) -> bool
+    ensures { IsTrue result ↔ (one ≡ other) }
+{
+    match (one, other) {
+        (Some(one), Some(other)) => same_talk(one, other),
+        (None, None) => true,
+        _ => false,
+    }
 }
 
 // Whether the same went wrong, or nothing.
@@ -57,12 +68,13 @@ fn same_matter(one: Matter, other: Matter) -> bool
 {
     match (one, other) {
         (
-            Matter::RequestRefused { code, reason },
+            Matter::RequestRefused { code, reason, end },
             Matter::RequestRefused {
                 code: other_code,
                 reason: other_reason,
+                end: other_end,
             },
-        ) => code == other_code && same_reason(reason, other_reason),
+        ) => code == other_code && same_reason(reason, other_reason) && same_end(end, other_end),
         (Matter::FrameRefused { code }, Matter::FrameRefused { code: other_code }) => {
             code == other_code
         }
@@ -70,19 +82,19 @@ fn same_matter(one: Matter, other: Matter) -> bool
             Matter::Ended {
                 proto,
                 status,
-                shortage,
+                talk,
                 trouble,
             },
             Matter::Ended {
                 proto: other_proto,
                 status: other_status,
-                shortage: other_shortage,
+                talk: other_talk,
                 trouble: other_trouble,
             },
         ) => {
             proto == other_proto
                 && status == other_status
-                && same_shortage(shortage, other_shortage)
+                && same_talk(talk, other_talk)
                 && same_trouble(trouble, other_trouble)
         }
         _ => false,

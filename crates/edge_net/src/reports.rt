@@ -22,6 +22,8 @@ use std::{fmt, io};
 #[derive(Drop)]
 pub struct Reports {
     is_quiet: bool,
+    // It is printed which number the connection of each sender has.
+    is_verbose: bool,
     // The version that runs, or nothing.
     version: &'static str,
     senders: Mutex<Recent>,
@@ -97,6 +99,7 @@ impl Reports {
     {
         Reports {
             is_quiet,
+            is_verbose: false,
             version: "",
             senders: Mutex::new(Recent::new()),
             receiver: Mutex::new(Receiver::new()),
@@ -123,6 +126,14 @@ impl Reports {
         ensures { result.is_quiet ≡ self.is_quiet }
     {
         Reports { version, ..self }
+    }
+
+    /// The same, and where `is_verbose` says so it is printed which number the connection of each sender has, unless nothing is printed.
+    pub fn with_verbose(self, is_verbose: bool) -> Reports
+        ensures quiet { result.is_quiet ≡ self.is_quiet }
+        ensures verbose { result.is_verbose ≡ is_verbose }
+    {
+        Reports { is_verbose, ..self }
     }
 
     /// The version that runs.
@@ -201,6 +212,13 @@ impl Reports {
         }
     }
 
+    /// That the first bytes came of this peer, whose connection has this number.
+    pub(crate) fn begins_to_send(&self, rt: &impl Eprint, peer: SocketAddr, conn: u64) {
+        if self.is_verbose && !self.is_quiet {
+            let _ = eprintln!(rt; "bridge: connection {conn} is of sender {peer}");
+        }
+    }
+
     /// That this befell the connection of this peer.
     pub(crate) fn sender(&self, rt: &(impl Clock + Eprint), peer: SocketAddr, matter: Matter) {
         if self.is_quiet {
@@ -208,7 +226,7 @@ impl Reports {
         }
         let topic = Topic {
             peer: peer.ip(),
-            matter,
+            matter: matter.kind(),
         };
         if let Some(line) = self.line_about(rt, topic) {
             let _ = eprintln!(rt; "bridge: sender {peer}: {matter}{line}");

@@ -153,6 +153,15 @@ impl Roll {
         self.report_missing(rt);
     }
 
+    /// Says of each place that each of its doors has a connection, where that is so, once a minute.
+    pub(crate) fn report_busy(&self, rt: &(impl Clock + Eprint)) {
+        for entry in &self.places {
+            if let Some(place) = entry.get() {
+                place.report_busy(rt);
+            }
+        }
+    }
+
     /// Prints a line for each place of which a door has not begun, the first time that there is one. A write that fails there is
     /// not reported.
     pub(crate) fn report_missing(&self, rt: &impl Eprint) {

@@ -1,6 +1,9 @@
 //! What is said of a sender: which one it is, and what befell its connection.
 use crate::Trouble;
-use edge_io::{Proto, Shortage};
+use crate::ending::{Ending, kind_of};
+use crate::reason::Reason;
+use edge_io::Proto;
+use event_form::Talk;
 use std::fmt;
 use std::net::IpAddr;
 
@@ -8,23 +11,53 @@ use std::net::IpAddr;
 #[derive(Clone, Copy, PartialEq, Eq)]
 pub enum Matter {
     /// A request of HTTP was answered with this status, which says that it was refused, and with the number of a reason, where the answer
-    /// has one.
+    /// has one. Where the connection ended by that, this is how.
     RequestRefused {
         code: u16,
         reason: Option<u16>,
+        end: Option<Talk>,
     },
     /// A frame of RELP was answered with this code, which says that it was refused.
     FrameRefused {
         code: u16,
     },
-    /// It ended otherwise than well: by which protocol it spoke, the exit status that stands for its ending, what lacked, where an event
-    /// could not be stored and nothing had failed, and what went wrong in a call of the system, if one failed.
+    /// It ended otherwise than well: by which protocol it spoke, the exit status that stands for its ending, the ending, and what went
+    /// wrong in a call of the system, if one failed.
     Ended {
         proto: Proto,
         status: u8,
-        shortage: Option<Shortage>,
+        talk: Talk,
         trouble: Option<Trouble>,
     },
+}
+
+impl Matter {
+    /// The same without the offset and the numbers of an ending, which are another connection's each time.
+    pub fn kind(self) -> Matter {
+        match self {
+            Matter::RequestRefused {
+                code,
+                reason,
+                end: Some(talk),
+            } => Matter::RequestRefused {
+                code,
+                reason,
+                end: Some(kind_of(talk)),
+            },
+            Matter::Ended {
+                proto,
+                status,
+                talk,
+                trouble,
+            } => Matter::Ended {
+                proto,
+                status,
+                talk: kind_of(talk),
+                trouble,
+            },
+            other => other,
+        }
+    }
 }
 
 /// What a line about a sender is about. Two lines with the same topic say the same of the same peer.
@@ -32,7 +65,7 @@ pub enum Matter {
 pub struct Topic {
     /// The peer's address. Its port isn't among it, since each connection comes from another one.
     pub peer: IpAddr,
-    /// What befell its connection.
+    /// What befell its connection, of which [`Matter::kind`] counts.
     pub matter: Matter,
 }
 
@@ -45,84 +78,37 @@ pub(crate) fn name_of(proto: Proto) -> &'static str {
     }
 }
 
-// What lacked, in words.
-fn lack_of(shortage: Shortage) -> &'static str {
-    match shortage {
-        Shortage::Room => "FILE has no room",
-        Shortage::Slot => "the event is larger than a slot of FILE",
-        Shortage::Ids => "the table of ack ids is full",
-    }
-}
-
-// What a status of an ending says, where no call of the system failed.
-fn meaning_of(status: u8) -> &'static str {
-    match status {
-        65 => "FILE is no spool",
-        66 => "its bytes break the protocol",
-        67 => "FILE has no room",
-        70 => "no memory",
-        71 => "a read failed",
-        72 => "a write failed",
-        73 => "a call on FILE failed",
-        75 => "it ended in a frame",
-        77 => "numbers are spent",
-        _ => "see its status",
-    }
-}
-
-// Why the collector refuses a request, by the number of its reason ("Troubleshoot HTTP Event Collector", possible error codes).
-fn words_of(reason: u16) -> &'static str {
-    match reason {
-        2 => "it has no token",
-        3 => "its field Authorization names no token",
-        4 => "its token isn't known",
-        5 => "it has no event",
-        6 => "its body isn't one that is taken",
-        8 => "it can't be stored",
-        9 => "FILE has no room for it, or the table of ack ids is full",
-        10 => "it names no channel",
-        11 => "its channel is no GUID",
-        12 => "an object has no event",
-        13 => "an event is blank",
-        14 => "its token has no ack ids",
-        16 => "its token stands in the query",
-        404 => "nothing is at its path",
-        405 => "its path has another method",
-        _ => "see its code",
-    }
-}
-
-/// Words that follow the peer's address, as `a request was refused with 401`.
+/// Words that follow the peer's address, as `a request was refused with 401, code 2: it has no token`.
 impl fmt::Display for Matter {
     fn fmt<W: fmt::Write>(&self, f: &mut fmt::Formatter<W>) -> fmt::Result {
         match *self {
-            Matter::RequestRefused { code, reason } => {
-                write!(f, "a request was refused with {code}")?;
-                match reason {
-                    Some(number) => {
-                        let words = words_of(number);
-                        write!(f, ", code {number}: {words}")
-                    }
-                    None => Ok(()),
-                }
+            Matter::RequestRefused {
+                code,
+                reason: Some(number),
+                end,
+            } => {
+                let reason = Reason { number, end };
+                write!(
+                    f,
+                    "a request was refused with {code}, code {number}: {reason}"
+                )
+            }
+            Matter::RequestRefused { code, .. } => {
+                write!(f, "a request was refused with {code}")
             }
             Matter::FrameRefused { code } => write!(f, "a frame was refused with {code}"),
             Matter::Ended {
                 proto,
                 status,
-                shortage,
+                talk,
                 trouble,
             } => {
-                let name = name_of(proto);
-                let meaning = match shortage {
-                    Some(shortage) => lack_of(shortage),
-                    None => meaning_of(status),
-                };
-                match (status, trouble) {
-                    (71 | 72, Some(trouble)) => {
+                let (name, ending) = (name_of(proto), Ending { talk });
+                match (talk, trouble) {
+                    (Talk::ReadFault | Talk::WriteFault, Some(trouble)) => {
                         write!(f, "its {name} connection ended with {status}: {trouble}")
                     }
-                    _ => write!(f, "its {name} connection ended with {status}: {meaning}"),
+                    _ => write!(f, "its {name} connection ended with {status}: {ending}"),
                 }
             }
         }

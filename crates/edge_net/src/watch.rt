@@ -1,12 +1,30 @@
 //! What is seen of a connection, for the lines about it.
-use crate::answer::reason_in;
+use crate::answer::{closes, reason_in};
+use crate::ending::explains;
 use crate::trouble::Way;
 use crate::{Answer, Illness, Matter, Reports, Trouble};
-use edge_io::{Proto, Shortage};
+use edge_io::Proto;
+use event_form::Talk;
 use std::io;
 use std::net::SocketAddr;
 use std::rt::Clock;
 use std::time::Duration;
+
+/// The peer of a connection that was accepted.
+#[derive(Clone, Copy)]
+pub(crate) struct Peer {
+    /// Its address.
+    pub(crate) address: SocketAddr,
+    /// The connection's number.
+    pub(crate) conn: u64,
+}
+
+// A refusal of a request, with its code and the number of its reason, where it has one.
+#[derive(Clone, Copy)]
+struct Refused {
+    code: u16,
+    reason: Option<u16>,
+}
 
 /// What is seen of a connection, and where it is said. It changes nothing of the connection.
 #[derive(Drop)]
@@ -14,7 +32,7 @@ pub(crate) struct Watch<'a, R> {
     rt: &'a R,
     reports: &'a Reports,
     // The peer, where the connection was accepted.
-    peer: Option<SocketAddr>,
+    peer: Option<Peer>,
     // How long a call waits for the peer.
     wait: Duration,
     has_read: bool,
@@ -22,6 +40,8 @@ pub(crate) struct Watch<'a, R> {
     has_reply: bool,
     // A line was asked for about it, or its end is no news after what was seen.
     is_said: bool,
+    // The refusal that ends it, of which nothing was said yet.
+    last: Option<Refused>,
     // What a call met last that failed.
     trouble: Option<Trouble>,
 }
@@ -31,7 +51,7 @@ impl<'a, R> Watch<'a, R> {
     pub(crate) fn of(
         rt: &'a R,
         reports: &'a Reports,
-        peer: Option<SocketAddr>,
+        peer: Option<Peer>,
         wait: Duration,
     ) -> Watch<'a, R> {
         Watch {
@@ -42,6 +62,7 @@ impl<'a, R> Watch<'a, R> {
             has_read: false,
             has_reply: false,
             is_said: false,
+            last: None,
             trouble: None,
         }
     }
@@ -70,10 +91,21 @@ impl<R: Clock + Eprint> Watch<'_, R> {
         }
     }
 
+    // Bytes came. Of the first ones of a connection that was accepted it is said which number it has, where that is asked for.
+    fn note_read(&mut self) {
+        if self.has_read {
+            return;
+        }
+        self.has_read = true;
+        if let Some(Peer { address, conn }) = self.peer {
+            self.reports.begins_to_send(self.rt, address, conn);
+        }
+    }
+
     /// A read that asked for some bytes gave these. Where the connection was dialed, `place` is where.
     pub(crate) fn saw_read(&mut self, place: Option<&str>, bytes: &[u8]) {
         if !bytes.is_empty() {
-            self.has_read = true;
+            self.note_read();
         }
         let Some(place) = place else {
             return self.reports.counts().received.add_many(bytes.len() as u64);
@@ -96,7 +128,7 @@ impl<R: Clock + Eprint> Watch<'_, R> {
         }
     }
 
-    /// A write took so many bytes of this piece.
+    /// A write took so many bytes of this piece. A refusal after which the connection ends is said with its end.
     pub(crate) fn saw_write(&mut self, piece: &[u8], taken: usize) {
         let Some(peer) = self.peer else {
             return self.reports.counts().sent.add_many(taken as u64);
@@ -107,16 +139,24 @@ impl<R: Clock + Eprint> Watch<'_, R> {
         let Some(code) = answer.refusal() else {
             return;
         };
-        let matter = match answer {
-            Answer::Reply { .. } => Matter::RequestRefused {
-                code,
-                reason: reason_in(piece),
-            },
-            Answer::Frame { .. } => Matter::FrameRefused { code },
-        };
         self.is_said = true;
         self.reports.counts().refusals.add(answer);
-        self.reports.sender(self.rt, peer, matter);
+        let matter = match answer {
+            Answer::Reply { .. } => {
+                let reason = reason_in(piece);
+                if closes(piece) {
+                    self.last = Some(Refused { code, reason });
+                    return;
+                }
+                Matter::RequestRefused {
+                    code,
+                    reason,
+                    end: None,
+                }
+            }
+            Answer::Frame { .. } => Matter::FrameRefused { code },
+        };
+        self.reports.sender(self.rt, peer.address, matter);
     }
 
     /// A read or a write failed by this error.
@@ -132,22 +172,28 @@ impl<R: Clock + Eprint> Watch<'_, R> {
         self.fails(place, Illness::Lost { trouble });
     }
 
-    /// A connection that was accepted was served to its end, by this protocol and with this exit status, and this lacked then, if anything
-    /// did.
-    pub(crate) fn ended(&self, proto: Proto, status: u8, shortage: Option<Shortage>) {
-        let is_unused = !self.has_read && self.trouble == Some(Trouble::Reset);
-        if status == 0 || self.is_said || is_unused {
+    /// A connection that was accepted was served to its end by this protocol, and ended so, which this exit status stands for. What it was
+    /// refused at last is said now, with how it ended where that is why.
+    pub(crate) fn ended(&self, proto: Proto, status: u8, talk: Talk) {
+        let Some(peer) = self.peer else {
             return;
-        }
-        if let Some(peer) = self.peer {
-            let matter = Matter::Ended {
+        };
+        let is_unused = !self.has_read && self.trouble == Some(Trouble::Reset);
+        let matter = match self.last {
+            Some(Refused { code, reason }) => Matter::RequestRefused {
+                code,
+                reason,
+                end: if explains(talk) { Some(talk) } else { None },
+            },
+            None if status == 0 || self.is_said || is_unused => return,
+            None => Matter::Ended {
                 proto,
                 status,
-                shortage,
+                talk,
                 trouble: self.trouble,
-            };
-            self.reports.sender(self.rt, peer, matter);
-        }
+            },
+        };
+        self.reports.sender(self.rt, peer.address, matter);
     }
 
     /// A connection that was dialed at this place was hung up.

@@ -1,12 +1,17 @@
 //! Why a reader did not take a piece of its stream.
 use std::alloc::AllocError;
+use std::fmt::Display;
+use thiserror::Error;
 
 /// Why a reader did not take a piece of its stream.
-#[derive(Drop, PartialEq, Eq)]
+#[derive(PartialEq, Eq, Debug, Drop, Error)]
+#[error_bound(F: Display)]
 pub enum FeedFault<F> {
     /// The stream breaks a rule of its format. The reader answers the same from then on.
+    #[error("{0}")]
     Fault(F),
     /// No memory was found. The reader is as before, and the piece was not added.
+    #[error("no memory")]
     NoMemory,
 }
 

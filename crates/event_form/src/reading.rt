@@ -9,6 +9,7 @@ ghost use Rattle.event_form.specs.Head.{Tells, entry_of};
 use crate::pairs::are_pairs;
 use crate::{Blob, Entry, Event, HEAD_BYTES, MOST_TEXT, Origin};
 use std::alloc::{AllocError, Global};
+use thiserror::Error;
 
 /// An entry that was read, and how many bytes it took.
 #[derive(Drop)]
@@ -18,14 +19,16 @@ pub struct Took {
 }
 
 /// Why no entry was read.
-#[derive(Clone, Copy, PartialEq, Eq)]
+#[derive(Clone, Copy, PartialEq, Eq, Debug, Drop, Error)]
 pub enum EntryFault {
     /// No entry's text begins the bytes. The first rule that they break, in this order and each as soon
     /// as its bytes are there, gives the place: 0 where the first byte is no origin; 25 where the length
     /// is above `MOST_TEXT`; 29 where the text of a `LumberData` entry is there and isn't at most
     /// `MOST_PAIRS` whole pairs; else the bytes end too early, and it is their length.
+    #[error("no entry at {at}")]
     BadEntry { at: usize },
     /// No memory was found. An entry's text does begin the bytes.
+    #[error("no memory")]
     NoMemory,
 }
 

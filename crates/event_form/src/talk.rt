@@ -2,7 +2,7 @@
 
 /// Why bytes are no stream of their protocol. RELP has the first five, Lumberjack `Version` to `TooMany`
 /// and `TooLong`, HTTP `BadHead` to `BadChunk` and `TooLong`.
-#[derive(Clone, Copy, PartialEq, Eq)]
+#[derive(Clone, Copy, PartialEq, Eq, Debug)]
 pub enum Why {
     /// A digit is due and isn't there, or a number has too many.
     Digits,
@@ -35,7 +35,7 @@ pub enum Why {
 }
 
 /// How a connection ended. Offsets count its bytes from 0, needs and rooms count bytes of a slot.
-#[derive(Clone, Copy, PartialEq, Eq)]
+#[derive(Clone, Copy, PartialEq, Eq, Debug)]
 pub enum Talk {
     /// The input was read to its end, at a frame's end.
     Ended,

@@ -4,3 +4,4 @@ pub mod QueryLaws
 pub mod CheckLaws
 pub mod ActLaws
 pub mod ReplyLaws
+pub mod RefusalLaws

@@ -11,7 +11,9 @@ use Rattle.body_faults.specs.declared.fault.BodyFault.TheVariants.{NoData, Forma
 use Rattle.hec_body.specs.Events.{IsCut}
 use Rattle.hec_body.specs.Lines.{IsLineCut}
 use Rattle.hec_body.specs.Acks.{AsksFor}
+use Rattle.http_edge.specs.declared.head.Head.{Head}
 use Rattle.http_edge.specs.declared.request.HttpRequest.{HttpRequest}
+use Rattle.http_edge.specs.Waits.{with_body}
 use Rattle.hec_session.specs.declared.act.HecAct.{HecAct}
 use Rattle.hec_session.specs.declared.act.HecAct.TheVariants.{StoreThenSay, SayThenStore, Ask, Say}
 use Rattle.hec_session.specs.declared.code.HecCode.{HecCode}
@@ -88,6 +90,14 @@ IsActFor body (Err code) act = act ≡ Say (say_of code None)
 -- the act for a request
 abbrev pub IsAct : Tokens → HttpRequest → HecAct → Type 0
 IsAct tokens r act = IsActFor r.body (task_of tokens r) act
+
+-- a request with this head is answered so, whatever its body is
+abbrev pub IsRefusal : Tokens → Head → HecSay → Type 0
+IsRefusal tokens head say = (body : List ℕ) → IsAct tokens (with_body head body) (Say say)
+
+-- what is done for a request with this head depends on its body: no check before it answers
+abbrev pub WantsBody : Tokens → Head → Type 0
+WantsBody tokens head = (task : Task) × ((body : List ℕ) → task_of tokens (with_body head body) ≡ Ok task)
 
 -- at least one event, at most 10,000, and each within its limits
 pub record AreWithinLimits (events : List Event) : Type 0 where

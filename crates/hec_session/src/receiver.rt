@@ -1,7 +1,8 @@
 //! The receiver.
-ghost use Rattle.std.specs.Prelude.{◌≡◌, ◌≤◌, length, IfOk};
+ghost use Rattle.std.specs.Prelude.{◌≡◌, ◌≤◌, length, IfOk, IfSome, IfNone};
 ghost use Rattle.http_edge.specs.Waits.{with_body};
-ghost use Rattle.hec_session.specs.Acts.{IsAct, IsSound, count_of};
+ghost use Rattle.hec_session.specs.Acts.{IsAct, IsRefusal, IsSound, WantsBody, count_of};
+ghost use Rattle.hec_session.specs.Codes.{IsReply};
 ghost use Rattle.hec_session.specs.Checks.{request_of};
 
 use crate::act::HecAct;
@@ -84,6 +85,26 @@ impl HecCore {
             body: request.body.bytes(),
         };
         self.judge(alloc, &request)
+    }
+
+    /// How a request with this head is answered whatever its body is: by the first check before the body that doesn't pass. `None`
+    /// exactly where all pass, and what is done depends on the body. The only error is want of memory.
+    pub fn refusal(&self, alloc: Global, head: &Head) -> Result<Option<HecSay>, AllocError>
+        ensures refused { IfOk result (λ refusal. IfSome refusal (IsRefusal self.now head.now)) }
+        ensures wanted { IfOk result (λ refusal. IfNone refusal (WantsBody self.now head.now)) }
+        ensures reply { IfOk result (λ refusal. IfSome refusal IsReply) }
+    {
+        let request = RequestRef {
+            method: head.method.bytes(),
+            target: head.target.bytes(),
+            fields: &head.fields,
+            body: b"".as_slice(),
+        };
+        match task_of(alloc, &self.tokens, &request) {
+            Ok(_) => Ok(None),
+            Err(Stop::Answer(code)) => Ok(Some(HecSay::of(code, None))),
+            Err(Stop::OutOfMemory) => Err(AllocError),
+        }
     }
 
     /// What is done for a request with this head and body, as [`HecCore::step`] has it, where a window lends

@@ -5,6 +5,7 @@ use Rattle.std.specs.Vec.{vec_capacity}
 use Rattle.std.proofs.lemmas.List.{drop-drop, drop-take, take_at}
 use Rattle.std.proofs.Math.Seq.{take-add}
 use Rattle.http_edge.specs.declared.fault.HttpFault.{HttpFault}
+use Rattle.http_edge.specs.declared.limits.TheConstants.{ROOM}
 use Rattle.http_edge.specs.declared.head.Head.{Head}
 use Rattle.http_edge.specs.declared.held.Held.{Held}
 use Rattle.http_edge.specs.declared.part.HeadPart.{HeadPart}
@@ -267,3 +268,36 @@ packed_window old new f p =
       heads = old.heads + old.size;
       beside = old.beside;
     })
+
+-- what is held, over other memory that has the same
+pub refilled : (old new : Held) → Fills old → new ≡ record old { queue = new.queue; bytes = new.bytes; joined = new.joined } → new.queue.items ≡ old.queue.items → new.bytes.items ≡ old.bytes.items → ROOM ≤ vec_capacity new.bytes → Fills new
+refilled old new f same q is enough =
+    let over = sym is in
+    let line = sym q in
+    subst Fills (sym same) (record {
+      space = enough;
+      unread_space = f.unread_space;
+      order = f.order;
+      inside = subst (λ (b : List ℕ). old.whole ≤ length b) over f.inside;
+      bodies = subst (λ (w : List Waiting). old.from + bodies_of w ≡ old.whole) line f.bodies;
+      heads_are = subst (λ (w : List Waiting). old.heads ≡ heads_of w) line f.heads_are;
+      are_heads = subst AreHeads line f.are_heads;
+      begun_is = f.begun_is;
+      first = subst (λ (w : List Waiting). old.beside ≤ first_head w old.size) line f.first;
+      alone = subst (λ (w : List Waiting). w ≡ [] → old.beside ≡ old.size) line f.alone;
+      bound = subst (λ (b : List ℕ). old.heads + old.size + (length b - old.from) + length old.unread.items ≤ ROOM + old.beside) over f.bound;
+      fits = subst (λ (b : List ℕ). Fits old.stage (length b - old.whole)) over f.fits;
+      short = f.short;
+      room = f.room;
+      head = f.head;
+      none = subst (λ (b : List ℕ). old.begun ≡ None → (old.whole ≡ length b) × (old.read ≡ 0)) over f.none;
+      broken = f.broken;
+    })
+
+-- contracts see the same
+pub refilled_window : (old new : Held) → new ≡ record old { queue = new.queue; bytes = new.bytes; joined = new.joined } → new.queue.items ≡ old.queue.items → new.bytes.items ≡ old.bytes.items → window_of new ≡ window_of old
+refilled_window old new same q is = ap window_of same ∙ (λ i. record {
+  reading = record { waiting = items_in (q i) (slice_range (is i) old.from old.whole); at = old.at; begun = old.begun; stage = old.stage; body = drop old.whole (is i); read = old.read; unread = old.unread.items; fault = old.fault };
+  heads = old.heads + old.size;
+  beside = old.beside;
+})

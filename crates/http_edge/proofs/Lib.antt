@@ -29,3 +29,5 @@ pub mod BodyHeldLaws
 pub mod GiveLaws
 pub mod WindowLaws
 pub mod CutHeldLaws
+pub mod PastLaws
+pub mod LeavingLaws

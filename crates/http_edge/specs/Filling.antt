@@ -11,6 +11,7 @@ use Rattle.http_edge.specs.declared.waiting.Waiting.TheVariants.{Continue, Reque
 use Rattle.http_edge.specs.declared.limits.TheConstants.{MOST_HEAD, ROOM}
 use Rattle.http_edge.specs.Keeping.{moved}
 use Rattle.http_edge.specs.Parts.{IsPart}
+use Rattle.http_edge.specs.Past.{clear_at}
 use Rattle.http_edge.specs.Reading.{Reading}
 use Rattle.http_edge.specs.Scanning.{IsBegun}
 use Rattle.http_edge.specs.Steps.{Fits}
@@ -124,3 +125,8 @@ FeedsHeld old piece r new = FeedsWith old old.unread.items piece r new
 -- the same, where these are the bytes that weren't read and the piece
 abbrev pub FeedsAfter : Held → List ℕ → List ℕ → Result (Unit {0}) (FeedFault HttpFault) → Held → Type 0
 FeedsAfter old unread all r new = (piece : List ℕ) → all ≡ unread ++ piece → FeedsWith old unread piece r new
+
+-- nothing of a request is held any more, where nothing waited
+pub record IsEmptied (old new : Held) : Type 0 where
+  pub reading_is : reading_of new ≡ clear_at old.at
+  pub none : counted new ≡ 0

@@ -4,6 +4,7 @@ use Rattle.http_edge.specs.declared.fault.HttpWhy.TheVariants.{BadHead, BadLengt
 use Rattle.http_edge.specs.declared.gather.Ending.{Ending}
 use Rattle.http_edge.specs.declared.gather.Ending.TheVariants.{Whole, Open, Bad}
 use Rattle.http_edge.specs.declared.gather.Gathered.{Gathered}
+use Rattle.http_edge.specs.declared.gather.Passed.{Passed}
 use Rattle.http_edge.specs.declared.stage.Stage.{Stage}
 use Rattle.http_edge.specs.declared.limits.TheConstants.{MOST_HEAD}
 use Rattle.http_edge.specs.Lengths.{BodySize, Chunked}
@@ -39,3 +40,9 @@ pub record Gathers (stage : Stage) (held : ℕ) (piece old new : List ℕ) (g : 
   pub added : new ≡ old ++ got
   pub few : length got ≤ g.used
   pub gathers : GathersTo stage held piece got g.used g.end
+
+-- so it is read, and the bytes of the body are counted
+pub record GathersPast (stage : Stage) (held : ℕ) (piece : List ℕ) (p : Passed) : Type 0 where
+  pub got : List ℕ
+  pub held_is : p.held ≡ held + length got
+  pub gathers : GathersTo stage held piece got p.used p.end

@@ -18,6 +18,7 @@ pub mod LineParts
 pub mod Parts
 pub mod Waits
 pub mod Cutting
+pub mod Past
 pub mod Window
 pub mod Filling
 pub mod Lending

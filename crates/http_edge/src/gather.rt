@@ -1,7 +1,7 @@
 //! The bytes of a body, gathered from a piece.
 ghost use Rattle.std.specs.Prelude.{◌+◌, ◌≤◌, length};
 ghost use Rattle.std.specs.Vec.{vec_len, vec_capacity};
-ghost use Rattle.http_edge.specs.Gathering.{Gathers};
+ghost use Rattle.http_edge.specs.Gathering.{Gathers, GathersPast};
 ghost use Rattle.http_edge.specs.Steps.{Fits};
 
 use crate::copy::append;
@@ -25,6 +25,60 @@ pub struct Gathered {
     /// How many bytes of the piece were read.
     pub used: usize,
     pub end: Ending,
+}
+
+/// What a piece brought of a body that isn't kept.
+#[derive(Clone, Copy)]
+pub struct Passed {
+    /// How many bytes of the piece were read.
+    pub used: usize,
+    /// How many bytes the body has by then.
+    pub held: usize,
+    pub end: Ending,
+}
+
+/// Reads a piece as [`gather`] does, and keeps a count of the body's bytes alone. It takes no memory.
+pub fn pass(stage: Stage, held: usize, piece: &[u8]) -> Passed
+    requires { Fits stage held }
+    ensures { GathersPast stage held piece.now result }
+{
+    let mut now = stage;
+    let mut count = held;
+    let mut from = 0;
+    'turns: loop {
+        match step(now, count, &piece[from..]) {
+            Turn::Took { stage, used } => {
+                now = stage;
+                count += used;
+                from += used;
+            }
+            Turn::Past { stage, used } => {
+                now = stage;
+                from += used;
+            }
+            Turn::Done { used } => {
+                return Passed {
+                    used: from + used,
+                    held: count,
+                    end: Ending::Whole,
+                };
+            }
+            Turn::Open => {
+                return Passed {
+                    used: from,
+                    held: count,
+                    end: Ending::Open(now),
+                };
+            }
+            Turn::Bad(why) => {
+                return Passed {
+                    used: from,
+                    held: count,
+                    end: Ending::Bad(why),
+                };
+            }
+        }
+    }
 }
 
 /// Reads a piece after a body of so many bytes so far that has come to this stage: to the end of the

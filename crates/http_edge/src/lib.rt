@@ -5,6 +5,9 @@
 //! The one contract is the grammar's. Whatever the pieces, the requests taken, the place of the unfinished
 //! request and the fault are those of the bytes joined.
 //!
+//! A body that nobody wants needn't be kept: an unfinished request can leave the window ([`HttpWindow::leave`]), and
+//! is then read past ([`PastBody`]). Its bytes are judged as they were, and what comes after it goes to the window again.
+//!
 //! The windows over RELP and Lumberjack keep the bytes of the frames that wait, by stream_grammar, and find a
 //! frame's parts in them again when they lend it. This one can't: chunks are joined as they come, so the bytes
 //! of a request that waits are gone, and a head is too dear to parse twice. So it has a machine and a model of
@@ -22,6 +25,7 @@ mod head;
 mod held;
 mod item;
 mod laws;
+mod leaving;
 mod left;
 mod length;
 mod limits;
@@ -30,6 +34,8 @@ mod lines;
 mod look;
 mod next;
 mod part;
+mod past;
+mod past_body;
 mod reply;
 mod request;
 mod scan;
@@ -56,6 +62,8 @@ pub use line_part::{LinePart, LinesPart, NO_LINES, after_line};
 pub use lines::{AT_START, LastLine, Lines, too_many_lines};
 pub use look::first_stage;
 pub use next::place;
+pub use past::Way;
+pub use past_body::PastBody;
 pub use reply::write_reply;
 pub use request::{HttpItem, HttpRequest};
 pub use stage::Stage;

@@ -14,3 +14,9 @@ pub const MOST_BODY: usize = 1_048_576;
 
 /// How many bytes a window holds: a body, and a trailer or the next head.
 pub const ROOM: usize = 1_064_960;
+
+/// How many bytes a window holds at most that gives memory back: what a short read brings.
+pub const FEW: usize = 8_192;
+
+/// How many bytes its memory had at most that keeps it then: those, and what the next short read brings.
+pub const MOST_KEPT: usize = 16_384;

@@ -1,6 +1,8 @@
 //! What a load counts.
 use event_form::Talk;
 use forward_core::Sent;
+use std::fmt;
+use thiserror::Error;
 
 /// What a load came to, in numbers.
 #[derive(Clone, Copy, PartialEq, Eq)]
@@ -18,14 +20,24 @@ pub struct Loaded {
 }
 
 /// Why a load came to no numbers.
-#[derive(Clone, Copy, PartialEq, Eq)]
+#[derive(Clone, Copy, PartialEq, Eq, Drop, Error)]
 pub enum LoadFault {
     /// The connection by which the stream was replayed ended so.
+    #[error("the replay failed")]
     Replayed { talk: Talk },
     /// The session by which the spool was drained ended so.
+    #[error("the drain failed")]
     Drained { sent: Sent },
     /// No memory was found.
+    #[error("no memory")]
     NoMemory,
+}
+
+/// The message too, since an ending has no form for a programmer.
+impl fmt::Debug for LoadFault {
+    fn fmt<W: fmt::Write>(&self, f: &mut fmt::Formatter<W>) -> fmt::Result {
+        fmt::Display::fmt(self, f)
+    }
 }
 
 impl From<std::alloc::AllocError> for LoadFault {

@@ -2,13 +2,14 @@
 ghost use Rattle.std.specs.Prelude.{◌≡◌, ℕ, ◌+◌, ◌-◌, ◌≤◌, ◌<◌, ◌^◌, List, [], ◌++◌, drop, take, length, ◌↔◌, IsNone, IfOk, IfSome, Some, None, Err};
 ghost use Rattle.std.specs.Vec.{vec_len, vec_capacity};
 ghost use Rattle.std.specs.Borrow.{sem};
+ghost use Rattle.lumber_frame.specs.declared.limits.TheConstants.{ROOM};
 ghost use Rattle.lumber_frame.specs.declared.fault.LumberFault.{LumberFault};
 ghost use Rattle.lumber_frame.specs.declared.side.Side.TheVariants.{Receiver};
 
 use crate::fault::LumberFault;
 use crate::field::{Phase, START};
 use crate::lent::{LumberRef, lend};
-use crate::limits::ROOM;
+use crate::limits::{FEW, MOST_KEPT, ROOM};
 use crate::run::{find, judge};
 use crate::side::Side;
 use std::alloc::{AllocError, Global};
@@ -32,6 +33,21 @@ fn shift_in(bytes: &mut Vec<u8>, from: usize, piece: &[u8], kept: usize)
     bytes.truncate(kept);
 }
 
+// Memory for a window, which begins with these bytes. None: there is none.
+fn copied(alloc: Global, held: &[u8]) -> Option<Vec<u8>>
+    requires { length held.now ≤ ROOM }
+    ensures items { IfSome result (λ bytes. bytes.items ≡ held.now) }
+    ensures capacity { IfSome result (λ bytes. ROOM ≤ vec_capacity bytes) }
+{
+    let Ok(mut bytes) = Vec::with_capacity(alloc, ROOM) else {
+        return None;
+    };
+    if bytes.extend_from_slice(held).is_err() {
+        return None;
+    }
+    Some(bytes)
+}
+
 /// A window over what a writer of Lumberjack sends, in pieces, cut anywhere. It holds at most 131,140
 /// bytes, those of whole frames that wait and of an unfinished one, and lends its frames.
 ///
@@ -47,6 +63,8 @@ pub struct LumberWindow {
     at: u64,
     // What has been read of the frame from `whole` on.
     phase: Phase,
+    // How many bytes the memory had at most since it was taken.
+    reached: usize,
     fault: Option<LumberFault>,
 }
 
@@ -86,6 +104,7 @@ impl LumberWindow {
             whole: 0,
             at: 0,
             phase: START,
+            reached: 0,
             fault: None,
         })
     }
@@ -118,6 +137,7 @@ impl LumberWindow {
         self.whole = waits + judged.end;
         self.at += judged.end as u64;
         self.phase = judged.phase;
+        self.reached = self.reached.max(self.bytes.len());
         if let Some(why) = judged.fault {
             let at = self.at + judged.phase.at as u64;
             let fault = LumberFault { at, why };
@@ -125,6 +145,25 @@ impl LumberWindow {
             return Err(fault);
         }
         Ok(taken)
+    }
+
+    /// Gives back what memory more than 16,384 bytes took, where no more than 8,192 are held now. Where there is none for another window
+    /// all stays as it is. Nothing else changes.
+    pub fn give_back(&mut self)
+        ensures { self.new ≡ self.old }
+    {
+        let held = self.bytes.len() - self.from;
+        if held > FEW || self.reached <= MOST_KEPT {
+            return;
+        }
+        let alloc = *self.bytes.allocator();
+        let Some(bytes) = copied(alloc, &self.bytes[self.from..]) else {
+            return;
+        };
+        self.bytes = bytes;
+        self.whole -= self.from;
+        self.from = 0;
+        self.reached = 0;
     }
 
     /// The next whole frame; `None` exactly where none waits. Its room is free from the next call on. It

@@ -8,3 +8,4 @@ mod why;
 
 pub use note::{Note, note_text};
 pub use place::Place;
+pub use why::why_word;

@@ -4,8 +4,8 @@ ghost use Rattle.notes.specs.Notes.{why_word};
 
 use event_form::Why;
 
-/// The word, or the words, for it.
-pub(crate) fn why_word(why: Why) -> &'static str
+/// The word, or the words, for it, as a note and a line about a connection have it.
+pub fn why_word(why: Why) -> &'static str
     ensures { result.now ≡ why_word why }
 {
     match why {

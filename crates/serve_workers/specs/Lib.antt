@@ -2,4 +2,3 @@ pub mod Served
 pub mod Works
 pub mod Crews
 pub mod Answering
-pub mod Shortage

@@ -14,7 +14,6 @@
 
 mod crew;
 mod hired;
-mod shortage;
 mod worker;
 
 pub use crew::{Crew, NoCrew, Post};

@@ -7,7 +7,6 @@ ghost use Rattle.serve_workers.specs.Works.{ServesLink, Stops, Worked, posted_as
 ghost use Rattle.serve_workers.specs.Crews.{IsReady};
 ghost use Rattle.serve_workers.specs.Answering.{MayAnswer};
 
-use crate::shortage::shortage_of;
 use conn_serve::{Rules, attend};
 use desk_access::Access;
 use desk_seats::Seat;
@@ -66,15 +65,14 @@ fn serve_next<P: Door, A: Access>(
     ensures stops { IfErr result (Stops rules.now conn (P.told door.old) (P.told door.new) (λ calls. A.ran access.old calls access.new)) }
     ensures stays { OnOk result ((k : ℕ) (read text : List ℕ) → P.permits door.old (k + 1) read text → P.permits door.new k read text) }
 {
-    let mut link = match door.accept() {
+    let mut link = match door.accept(conn) {
         Ok(Some(link)) => link,
         Ok(None) => return Err(WorkerEnd::Shut),
         Err(_) => return Err(WorkerEnd::AcceptFault),
     };
     let attended = attend(alloc, &mut link, rules, access, conn);
     let status = Note::of_talk(attended.talk).status();
-    let shortage = shortage_of(attended.talk);
-    match door.give_back(link, rules.proto, conn, status, shortage) {
+    match door.give_back(link, rules.proto, conn, status, attended.talk) {
         Ok(()) => Ok(()),
         Err(_) => Err(WorkerEnd::NoMemory),
     }

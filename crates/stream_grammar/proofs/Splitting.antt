@@ -2,7 +2,7 @@
 use Rattle.std.proofs.Common.{◌≡◌, ℕ, ◌+◌, ◌-◌, ◌<◌, ◌≤◌, ◌^◌, ◌∙◌, List, [], ◌∷◌, ◌++◌, Option, Some, None, min, length, take, drop, refl, sym, ap, subst, arith, append_assoc, length-append, length-take-le, length-drop}
 use Rattle.std.specs.List.{All}
 use Rattle.std.specs.Prelude.{slice_range}
-use Rattle.std.proofs.lemmas.List.{drop_at, take_all, take_at}
+use Rattle.std.proofs.lemmas.List.{drop-drop, drop_at, take_all, take_at}
 use Rattle.std.proofs.lemmas.List.Elements.{All-append}
 use Rattle.std.proofs.Math.Seq.{take-append-add}
 use Rattle.stream_grammar.specs.Filling.{window_of}
@@ -212,3 +212,39 @@ module _ {F P W E : Type 0} {p : Format F E} {l : Layout F P W} {fault_of : ℕ 
         short = k.short;
         unfinished = k.unfinished;
       }
+
+-- ---- what is held, in memory of its own
+
+held_front : (bytes : List ℕ) (from whole : ℕ) → slice_range (drop from bytes) 0 (whole - from) ≡ slice_range bytes from whole
+held_front bytes from whole =
+    let n : whole - from - 0 ≡ whole - from = omega arith in
+    ap (λ (k : ℕ). take k (drop from bytes)) n
+
+held_back : (bytes : List ℕ) (from whole : ℕ) → from ≤ whole → drop (whole - from) (drop from bytes) ≡ drop whole bytes
+held_back bytes from whole order =
+    let m : from + (whole - from) ≡ whole = omega (arith, order) in
+    drop-drop (whole - from) from bytes ∙ ap (λ (k : ℕ). drop k bytes) m
+
+-- it fills that memory as it filled the old one
+pub fills_moved : {F P W : Type 0} (l : Layout F P W) (bytes : List ℕ) (space space' from whole at : ℕ) (now : P) → Fills l bytes space from whole at now
+    → l.room ≤ space' → Fills l (drop from bytes) space' 0 (whole - from) at now
+fills_moved l bytes space space' from whole at now k enough =
+    let front = held_front bytes from whole in
+    let back = held_back bytes from whole k.order in
+    let n = length-drop from bytes in
+    record {
+      enough = enough;
+      bound = omega (arith, k.bound, n);
+      order = omega arith;
+      inside = omega (arith, k.order, k.inside, n);
+      waiting = k.waiting;
+      spelled = subst (AreSpelled l.Spells k.waiting) (sym front) k.spelled;
+      room = subst (λ (z : List ℕ). at + length z ≤ 2 ^ 40) (sym back) k.room;
+      short = subst (λ (z : List ℕ). length z < l.room) (sym back) k.short;
+      unfinished = subst (λ (z : List ℕ). l.IsUnfinished z now) (sym back) k.unfinished;
+    }
+
+-- and contracts see the same
+pub window_moved : {E : Type 0} (bytes : List ℕ) (from whole at : ℕ) (fault : Option E) → from ≤ whole
+    → window_of (drop from bytes) 0 (whole - from) at fault ≡ window_of bytes from whole at fault
+window_moved bytes from whole at fault order = λ i. record { whole = held_front bytes from whole i; at = at; rest = held_back bytes from whole order i; fault = fault }

@@ -21,7 +21,7 @@ ghost use Rattle.conn_serve.specs.LumberServing.{Handles};
 
 use super::act::{commit, serve_frame};
 use crate::connection::Connection;
-use crate::memory::need_of;
+use crate::memory::{is_short, need_of};
 use crate::session::Session;
 use crate::staged::Staged;
 use desk_access::Access;
@@ -130,6 +130,19 @@ impl Session for LumberSession {
             return WHOLE;
         }
         need_of(WHOLE, asked, self.window.held(), more)
+    }
+
+    fn rest(&mut self, asked: usize) {
+        if !is_short(asked) {
+            return;
+        }
+        self.window.give_back();
+    }
+
+    ghost passes = { λ _. ⊥ };
+
+    fn is_passing(&self) -> bool {
+        false
     }
 
     fn feed(&mut self, piece: &[u8]) -> usize {

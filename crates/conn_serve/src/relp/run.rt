@@ -27,6 +27,9 @@ use std::mem;
 /// How many bytes the texts of several events have at most that are stored as one group: as many as a frame has.
 const MOST_BYTES: usize = 131_136;
 
+// How many bytes of answers keep their memory.
+const MOST_KEPT: usize = 1_024;
+
 /// The run of events that is stored next as one group, with the answers that are due then. Contracts see the
 /// entries.
 #[derive(Drop)]
@@ -155,12 +158,13 @@ impl Run {
         self.size <= MOST_BYTES && size <= MOST_BYTES - self.size
     }
 
-    /// Nothing is to be stored any more. The memory is kept for the next run.
+    /// Nothing is to be stored any more. Memory is kept for the next run, as much as a short one needs.
     pub fn clear(&mut self)
         ensures { self.new ≡ [] }
     {
         self.staged.stored();
         self.answers.clear();
+        self.answers.shrink_to(MOST_KEPT);
         self.size = 0;
     }
 

@@ -22,7 +22,7 @@ use super::run::Run;
 use super::store::store_all;
 use super::texts::Texts;
 use crate::connection::Connection;
-use crate::memory::need_of;
+use crate::memory::{is_short, need_of};
 use crate::session::Session;
 use desk_access::Access;
 use edge_io::Link;
@@ -131,6 +131,19 @@ impl Session for RelpSession {
 
     fn need(&self, asked: usize, more: usize) -> u64 {
         need_of(WHOLE, asked, self.window.held(), more)
+    }
+
+    fn rest(&mut self, asked: usize) {
+        if !is_short(asked) {
+            return;
+        }
+        self.window.give_back();
+    }
+
+    ghost passes = { λ _. ⊥ };
+
+    fn is_passing(&self) -> bool {
+        false
     }
 
     fn feed(&mut self, piece: &[u8]) -> usize {

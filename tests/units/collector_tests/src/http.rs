@@ -1,6 +1,7 @@
 //! Tests of the crates that read requests and replies of HTTP/1.1: streams, recorded ones too, and each limit from
 //! both sides, in pieces of several sizes.
 pub mod limit_rows;
+pub mod past;
 pub mod replies;
 pub mod reply_rows;
 pub mod request_rows;

@@ -1,6 +1,6 @@
 //! Tables of texts and what is told of them, and how they are checked.
 use crate::hec::{bodies, sessions};
-use crate::http::{replies, requests, windows};
+use crate::http::{past, replies, requests, windows};
 use crate::spelling::spell;
 use hec_session::HecCore;
 use hec_tokens::{ListedToken, TokenList};
@@ -29,7 +29,10 @@ pub enum Form {
 // What a text tells, read in pieces of a size where it is a stream.
 fn told(rt: &impl Abort, alloc: Global, form: &Form, text: &[u8], size: usize) -> Vec<u8> {
     match form {
-        Form::Requests => requests::told(rt, alloc, text, size),
+        Form::Requests => {
+            past::agrees(rt, alloc, text, size);
+            requests::told(rt, alloc, text, size)
+        }
         Form::Replies => replies::told(rt, alloc, text, size),
         Form::Held => windows::held(rt, alloc, text),
         Form::Filled => windows::filled(rt, alloc, text),

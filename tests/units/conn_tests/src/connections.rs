@@ -6,7 +6,7 @@ use crate::fields::{bytes_of, check_form, numbers_of};
 use crate::harness::{check_bytes, is_grouped, repeated, serve};
 use crate::reads::one_read_brings_long_runs;
 use crate::{
-    hec_endings, hec_refused, hec_rows, hec_unsaid, lumberjack_endings, lumberjack_rows,
+    hec_endings, hec_past, hec_refused, hec_rows, hec_unsaid, lumberjack_endings, lumberjack_rows,
     relp_endings, relp_rows, relp_runs,
 };
 use edge_io::Proto;
@@ -66,6 +66,17 @@ fn each_row_is_served(rt: &impl Abort, alloc: Global) {
     }
 }
 
+// Where reads end in the middle of bodies that are refused anyway, they are read past. A read that brings all brings them whole.
+fn refused_bodies_are_read_past(rt: &impl Abort, alloc: Global) {
+    check_form(rt, hec_past::PAST, WORDS, 10);
+    for row in hec_past::PAST.split("\n\n") {
+        for step in 1..hec_past::STEPS {
+            check(rt, alloc, Proto::Hec, row, step);
+        }
+        check_row(rt, alloc, Proto::Hec, row);
+    }
+}
+
 // A connection that isn't closed goes on, whatever number of requests came.
 fn a_thousand_requests_are_answered(rt: &impl Abort, alloc: Global) {
     let row = hec_rows::ONE;
@@ -82,6 +93,7 @@ fn whole_connections(rt: HostRuntime) {
     let alloc = rt.alloc();
     each_row_is_served(&rt, alloc);
     a_failed_call_of_the_disk_ends_the_connection(&rt, alloc);
+    refused_bodies_are_read_past(&rt, alloc);
     one_read_brings_long_runs(&rt, alloc);
     memory_is_claimed(&rt, alloc);
     a_thousand_requests_are_answered(&rt, alloc);

@@ -3,6 +3,7 @@ ghost use Rattle.std.specs.Prelude.{◌<◌};
 
 use crate::asked::Asked;
 use crate::fields::{bytes_of, number_of, numbers_of};
+use crate::silent::Silent;
 use conn_serve::{Rules, attend};
 use desk_access::Access;
 use edge_io::{Both, MemLink, MemSink, MemSource, Proto};
@@ -141,6 +142,11 @@ fn rules_of(rt: &impl Abort, proto: Proto, row: &str) -> Rules {
     }
 }
 
+// Whether the row says that the sender is silent after each read.
+fn is_silent(rt: &impl Abort, row: &str) -> bool {
+    number_of(rt, row, "silent", 0) == 1
+}
+
 /// Serves a connection whose bytes are those of the row, and returns how many bytes of memory it claimed last, and at most.
 pub(crate) fn claims(rt: &impl Abort, alloc: Global, proto: Proto, row: &str) -> (u64, u64) {
     let mut desk = desk_of(rt, alloc, row, &[]).expect(rt, "not opened");
@@ -148,6 +154,11 @@ pub(crate) fn claims(rt: &impl Abort, alloc: Global, proto: Proto, row: &str) ->
     let source = MemSource::of(input, usize::MAX, Vec::new(alloc));
     let mut link = MemLink::of(source, MemSink::of(alloc, Vec::new(alloc)));
     let rules = rules_of(rt, proto, row);
+    if is_silent(rt, row) {
+        let mut silent = Silent { link };
+        let _ = attend(alloc, &mut silent, &rules, &mut desk, CONN);
+        return (silent.link.claimed(), silent.link.most_claimed());
+    }
     let _ = attend(alloc, &mut link, &rules, &mut desk, CONN);
     (link.claimed(), link.most_claimed())
 }

@@ -19,6 +19,8 @@ mod harness;
 #[cfg(test)]
 mod hec_endings;
 #[cfg(test)]
+mod hec_past;
+#[cfg(test)]
 mod hec_refused;
 #[cfg(test)]
 mod hec_rows;
@@ -36,3 +38,5 @@ mod relp_endings;
 mod relp_rows;
 #[cfg(test)]
 mod relp_runs;
+#[cfg(test)]
+mod silent;

@@ -1,14 +1,20 @@
 //! Accepts that fail, and doors that nobody serves, by a clock and a standard error in memory.
+use crate::scraped::NUMBERS;
 use crate::sockets::free_place;
 use crate::staged::Staged;
-use edge_io::{Door, Net, Pause};
+use edge_io::{Door, Monitor, Net, Pause, Proto};
 use edge_net::{Reports, TcpNet, Waits, next_connection};
+use event_form::Talk;
 use std::alloc::Global;
 use std::cell::Cell;
 use std::io;
 use std::net::{OpenListener, SocketAddr};
 use std::process::Abort;
 use std::sync::atomic::AtomicU64;
+use std::time::Duration;
+
+// A minute and a second, in milliseconds.
+const MINUTE: u64 = 61_000;
 
 // The numbers of Linux for errors that pass, of the connection that was to be accepted or of the system.
 const PASSING: [i32; 19] = [
@@ -130,6 +136,84 @@ fn errors_that_last_are_faults(rt: &impl Abort, staged: &Staged<'_>) {
     assert!(rt; staged.take_sleeps(rt).is_empty() && staged.take_lines(rt).is_empty());
 }
 
+// That this was printed of a place whose two doors have connections, or nothing.
+fn assert_busy(rt: &impl Abort, staged: &Staged<'_>, place: &str, is_said: bool) {
+    let lines = staged.take_lines(rt);
+    let (line, is_one) = match lines.as_slice() {
+        [] => ("", false),
+        [line] => (line.as_str(), true),
+        _ => panic!(rt; "a line at most, not {lines:?}"),
+    };
+    assert!(rt; is_one == is_said, "{line}");
+    let tail = ": all 2 workers serve one; further ones wait";
+    let holds = line.starts_with("bridge: senders at ") && line.ends_with(tail);
+    assert!(rt; !is_said || (holds && line.contains(place)), "{line}");
+}
+
+// A place whose doors all have connections is reported once a minute as long as that is so, though no further one is accepted: by the one
+// who pauses, and by the monitor.
+fn places_in_use_are_reported_each_minute(
+    rt: &impl Abort,
+    alloc: Global,
+    host: &HostRuntime,
+    staged: &Staged<'_>,
+) {
+    let (place, asked) = (free_place(rt, host), free_place(rt, host));
+    let reports = Reports::new();
+    let waits = Waits {
+        roll: Duration::ZERO,
+        ..Waits::standard()
+    };
+    let mut net = TcpNet::with_waits(alloc, staged, &reports, waits);
+    let mut monitor = net.monitor(asked.as_str()).expect(rt, "a free port");
+    let mut doors = net.bind(place.as_str(), 2).expect(rt, "a free port");
+    let mut door = doors.pop().expect(rt, "two doors");
+    let _ = staged.take_lines(rt);
+    let first = net.dial(place.as_str()).expect(rt, "a port that listens");
+    let far = door.accept(0).expect(rt, "a connection waits");
+    let far = far.expect(rt, "no door is shut");
+    // (the other door has not begun)
+    let _ = staged.take_lines(rt);
+    net.pause();
+    assert_busy(rt, staged, &place, false);
+    let second = net.dial(place.as_str()).expect(rt, "a port that listens");
+    let mut other = doors.pop().expect(rt, "two doors");
+    assert!(rt; matches!(other.accept(1), Ok(Some(_))));
+    assert_busy(rt, staged, &place, true);
+    net.pause();
+    assert_busy(rt, staged, &place, false);
+    for _ in 0..2 {
+        staged.pass(MINUTE);
+        net.pause();
+        assert_busy(rt, staged, &place, true);
+        net.wait_briefly();
+        assert_busy(rt, staged, &place, false);
+        // (59 seconds after the line)
+        staged.pass(MINUTE - 2_000);
+        net.wait_briefly();
+        assert_busy(rt, staged, &place, false);
+    }
+    staged.pass(MINUTE);
+    monitor.tell(&NUMBERS);
+    let lines = staged.take_lines(rt);
+    let busy = lines
+        .as_slice()
+        .iter()
+        .filter(|line| line.contains("all 2 workers"))
+        .count();
+    assert!(rt; busy == 1, "{lines:?}");
+    monitor.tell(&NUMBERS);
+    net.pause();
+    assert_busy(rt, staged, &place, false);
+    net.hang_up(first);
+    assert!(rt; door.give_back(far, Proto::Relp, 0, 0, Talk::Ended).is_ok());
+    staged.pass(MINUTE + MINUTE);
+    net.pause();
+    monitor.tell(&NUMBERS);
+    assert_busy(rt, staged, &place, false);
+    net.hang_up(second);
+}
+
 // Binds two doors at the one place and a door at the other, and accepts at the first: the lines that say which lack a thread.
 fn doors_that_nobody_serves_are_reported(
     rt: &impl Abort,
@@ -146,7 +230,7 @@ fn doors_that_nobody_serves_are_reported(
     assert!(rt; staged.take_lines(rt).len() == 2);
     let first = net.dial(one.as_str()).expect(rt, "a port that listens");
     let mut door = doors.pop().expect(rt, "two doors");
-    assert!(rt; matches!(door.accept(), Ok(Some(_))));
+    assert!(rt; matches!(door.accept(0), Ok(Some(_))));
     // by looks of 10 milliseconds
     assert!(rt; staged.take_sleeps(rt).as_slice() == [10; 300].as_slice());
     let lines = staged.take_lines(rt);
@@ -203,6 +287,7 @@ pub(crate) fn accepts_fail_and_pass(rt: &impl Abort, alloc: Global, host: &HostR
     a_line_is_printed_once_a_minute(rt, &staged);
     errors_that_last_are_faults(rt, &staged);
     doors_that_nobody_serves_are_reported(rt, alloc, host, &staged);
+    places_in_use_are_reported_each_minute(rt, alloc, host, &staged);
     let _ = staged.take_sleeps(rt);
     a_net_reports_doors_that_wait_for_it(rt, alloc, host, &staged);
 }

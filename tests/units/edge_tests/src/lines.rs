@@ -1,13 +1,19 @@
 //! Which lines are due, by times that are given.
-use edge_net::{Answer, Illness, Line, Matter, Pace, Receiver, Recent, Standstill, Topic};
+use edge_net::{Answer, Illness, Line, Matter, Pace, Receiver, Recent, Stamp, Standstill, Topic};
+use std::alloc::Global;
 use std::net::{IpAddr, Ipv4Addr};
 use std::process::Abort;
+use std::time::Duration;
 
 // A topic of the peer 10.0.0.N.
 fn topic(peer: u8, code: u16) -> Topic {
     Topic {
         peer: IpAddr::V4(Ipv4Addr::new(10, 0, 0, peer)),
-        matter: Matter::RequestRefused { code, reason: None },
+        matter: Matter::RequestRefused {
+            code,
+            reason: None,
+            end: None,
+        },
     }
 }
 
@@ -167,8 +173,39 @@ fn codes_from_400_on_refuse(rt: &impl Abort) {
     }
 }
 
+// Times before a line, by their milliseconds from 1970 on: as `date -u -d @SECONDS` has them.
+const STAMPS: [(u64, &str); 17] = [
+    (0, "1970-01-01T00:00:00.000Z"),
+    (5_097_599_999, "1970-02-28T23:59:59.999Z"),
+    (5_097_600_000, "1970-03-01T00:00:00.000Z"),
+    (68_169_600_000, "1972-02-29T00:00:00.000Z"),
+    (946_684_799_999, "1999-12-31T23:59:59.999Z"),
+    (946_684_800_000, "2000-01-01T00:00:00.000Z"),
+    (951_782_400_000, "2000-02-29T00:00:00.000Z"),
+    (951_868_800_000, "2000-03-01T00:00:00.000Z"),
+    (978_307_199_007, "2000-12-31T23:59:59.007Z"),
+    (1_709_164_800_000, "2024-02-29T00:00:00.000Z"),
+    (1_709_251_200_000, "2024-03-01T00:00:00.000Z"),
+    (1_735_689_599_999, "2024-12-31T23:59:59.999Z"),
+    (1_735_689_600_000, "2025-01-01T00:00:00.000Z"),
+    (1_796_117_400_250, "2026-12-01T09:30:00.250Z"),
+    (4_107_542_399_000, "2100-02-28T23:59:59.000Z"),
+    (4_107_542_400_000, "2100-03-01T00:00:00.000Z"),
+    (253_402_300_799_999, "9999-12-31T23:59:59.999Z"),
+];
+
+fn times_are_of_the_calendar(rt: &impl Abort, alloc: Global) {
+    for (millis, text) in STAMPS {
+        let stamp = Stamp {
+            since_1970: Duration::from_millis(millis),
+        };
+        let given = format!(in alloc; "{stamp}").expect(rt, "memory");
+        assert!(rt; given.as_str() == text, "{given}");
+    }
+}
+
 /// Each with what it keeps in mind of its own.
-pub(crate) fn lines_are_few_and_count_the_rest(rt: &impl Abort) {
+pub(crate) fn lines_are_few_and_count_the_rest(rt: &impl Abort, alloc: Global) {
     a_topic_has_one_line_a_minute(rt);
     ten_lines_a_second_are_printed(rt);
     a_flood_is_counted(rt);
@@ -176,4 +213,5 @@ pub(crate) fn lines_are_few_and_count_the_rest(rt: &impl Abort) {
     an_entry_has_one_line_a_minute(rt);
     answers_are_told_by_their_first_bytes(rt);
     codes_from_400_on_refuse(rt);
+    times_are_of_the_calendar(rt, alloc);
 }

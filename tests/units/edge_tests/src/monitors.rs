@@ -1,7 +1,8 @@
 //! Those who ask for numbers over the loopback's sockets.
 use crate::sockets::{bound, free_place, pair};
-use edge_io::{Door, EventCounts, Monitor, Net, NetFault, Proto, Shortage, Sink, SpoolNumbers};
+use edge_io::{Door, EventCounts, Monitor, Net, NetFault, Proto, Sink, SpoolNumbers};
 use edge_net::{Reports, TcpMonitor, TcpNet, Waits};
+use event_form::{Talk, Why};
 use std::io::{self, Read, Write};
 use std::net::{Shutdown, TcpStream};
 use std::process::Abort;
@@ -323,15 +324,12 @@ fn health(
     text
 }
 
-// A connection of a sender comes, and ends since this lacked.
-fn serve_one(rt: &impl Abort, net: &mut TcpNet<'_, HostRuntime>, place: &str, shortage: Shortage) {
+// A connection of a sender comes, and ends so, with 67.
+fn serve_one(rt: &impl Abort, net: &mut TcpNet<'_, HostRuntime>, place: &str, talk: Talk) {
     let mut door = bound(rt, net, place);
     let (near, far) = pair(rt, net, &mut door, place);
     net.hang_up(near);
-    assert!(rt;
-        door.give_back(far, Proto::Relp, 0, 67, Some(shortage))
-            .is_ok()
-    );
+    assert!(rt; door.give_back(far, Proto::Relp, 0, 67, talk).is_ok());
 }
 
 fn health_says_what_is_wrong(
@@ -347,15 +345,16 @@ fn health_says_what_is_wrong(
         assert_answer(rt, &text, "200 OK") == "ok\n",
         "nothing was refused"
     );
-    for shortage in [Shortage::Slot, Shortage::Ids] {
-        serve_one(rt, &mut net, &free_place(rt, host), shortage);
+    for talk in [Talk::TooLarge { need: 9, most: 8 }, Talk::Busy { held: 7 }] {
+        serve_one(rt, &mut net, &free_place(rt, host), talk);
         let text = health(rt, host, &mut monitor, &place, &FULL);
         assert!(rt;
             assert_answer(rt, &text, "200 OK") == "ok\n",
             "it isn't room that lacked"
         );
     }
-    serve_one(rt, &mut net, &free_place(rt, host), Shortage::Room);
+    let full = Talk::Full { need: 9, room: 8 };
+    serve_one(rt, &mut net, &free_place(rt, host), full);
     let wrong = "503 Service Unavailable";
     for _ in 0..2 {
         let text = health(rt, host, &mut monitor, &place, &FULL);
@@ -421,7 +420,11 @@ fn connections_are_counted(rt: &(impl Abort + AllocGlobal), host: &HostRuntime) 
     assert_page(rt, host, &mut monitor, &place, &lines);
     assert!(rt; far.write(b"HTTP/1.1 400 No\r\n").is_ok());
     net.hang_up(near);
-    assert!(rt; door.give_back(far, Proto::Hec, 0, 66, None).is_ok());
+    let talk = Talk::Fault {
+        at: 7,
+        why: Why::BadHead,
+    };
+    assert!(rt; door.give_back(far, Proto::Hec, 0, 66, talk).is_ok());
     assert!(rt; net.dial("127.0.0.1").is_err());
     let rest = ",protocol=\"hec\",status=\"66\"} 1";
     let ended = sample(rt, "ended_total", &senders, rest);

@@ -6,6 +6,7 @@ use edge_io::{
     Door, Finished, HeldUp, Hung, MemDoor, MemLink, MemNet, MemPlace, MemScript, MemSink,
     MemSource, Monitor, Net, NetFault, Pause, Proto, Sink, Source,
 };
+use event_form::Talk;
 use std::alloc::Global;
 use std::process::Abort;
 
@@ -32,7 +33,7 @@ fn door(rt: &impl Abort, alloc: Global) -> MemDoor
 
 // The next link of the door, at which one waits.
 fn next(rt: &impl Abort, door: &mut MemDoor) -> MemLink {
-    let link = door.accept().expect(rt, "this accept doesn't fail");
+    let link = door.accept(0).expect(rt, "this accept doesn't fail");
     link.expect(rt, "a link waits")
 }
 
@@ -50,14 +51,14 @@ fn is_talk(talk: &Finished, want: (Proto, u64, &str, &str, u8, u64)) -> bool {
 // Accepts both links of the door, and gives them back in the other order, the first one after a read and a write.
 fn serve_two(rt: &impl Abort, door: &mut MemDoor) {
     let mut first = next(rt, door);
-    assert!(rt; door.accept().is_err(), "the second accept fails");
+    assert!(rt; door.accept(0).is_err(), "the second accept fails");
     let second = next(rt, door);
-    assert!(rt; matches!(door.accept(), Ok(None)), "no link is left");
+    assert!(rt; matches!(door.accept(0), Ok(None)), "no link is left");
     let counts = [first.read(&mut [0u8; 8]).ok(), first.write(b"answer").ok()];
     assert!(rt; counts == [Some(4), Some(6)]);
-    let given = door.give_back(second, Proto::Hec, 8, 0, None);
+    let given = door.give_back(second, Proto::Hec, 8, 0, Talk::Ended);
     given.expect(rt, "memory");
-    let given = door.give_back(first, Proto::Relp, 7, 66, None);
+    let given = door.give_back(first, Proto::Relp, 7, 66, Talk::NoMemory);
     given.expect(rt, "memory");
 }
 

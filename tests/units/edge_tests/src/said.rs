@@ -1,8 +1,9 @@
 //! What a net says of what befalls its doors and links, by a clock and a standard error in memory.
 use crate::sockets::free_place;
 use crate::staged::Staged;
-use edge_io::{Door, HeldUp, Net, Pause, Proto, Shortage, Sink, Source};
+use edge_io::{Door, HeldUp, Net, Pause, Proto, Sink, Source};
 use edge_net::{Reports, TcpDoor, TcpLink, TcpNet, Waits};
+use event_form::{Talk, Why};
 use std::alloc::Global;
 use std::process::Abort;
 use std::time::Duration;
@@ -75,6 +76,120 @@ const HELD_UP: [(HeldUp, Option<&str>); 8] = [
     ),
 ];
 
+// The bytes of a sender break its protocol.
+const BROKEN: Talk = Talk::Fault {
+    at: 7,
+    why: Why::BadHead,
+};
+
+// How a connection ends, the status of that, and what is said.
+const ENDINGS: [(Talk, u8, &str); 14] = [
+    (
+        BROKEN,
+        66,
+        "66: its bytes break the protocol at byte 7: bad head",
+    ),
+    (
+        Talk::Fault {
+            at: 1_048_580,
+            why: Why::TooLong,
+        },
+        66,
+        "66: its bytes break the protocol at byte 1048580: too long",
+    ),
+    (
+        Talk::Full {
+            need: 300,
+            room: 20,
+        },
+        67,
+        "67: FILE has no room; 300 bytes needed, 20 free",
+    ),
+    (
+        Talk::TooLarge {
+            need: 300,
+            most: 200,
+        },
+        67,
+        "67: the event is larger than a slot of FILE; 300 bytes needed, 200 at most",
+    ),
+    (
+        Talk::Busy { held: 10_000 },
+        67,
+        "67: the table of ack ids is full; it holds 10000",
+    ),
+    (
+        Talk::Truncated { at: 12 },
+        75,
+        "75: it ended in a frame at byte 12",
+    ),
+    (
+        Talk::NotSpool { at: 4_096 },
+        65,
+        "65: FILE is no spool at byte 4096",
+    ),
+    (Talk::NoMemory, 70, "70: no memory"),
+    (Talk::DiskFault, 73, "73: a call on FILE failed"),
+    (
+        Talk::TooMuch { at: 1 },
+        77,
+        "77: it sent as much as a connection may",
+    ),
+    (
+        Talk::Spent { end: 1 },
+        77,
+        "77: the numbers of entries are spent",
+    ),
+    (
+        Talk::NoMore { run: 1 },
+        77,
+        "77: the ack ids of this run are spent",
+    ),
+    (Talk::ReadFault, 71, "71: a read failed"),
+    (Talk::WriteFault, 72, "72: a write failed"),
+];
+
+// A reply after which its connection ends, how that does, its status, and what is said of both.
+const LAST_REPLIES: [(&str, Talk, u8, &str); 6] = [
+    (
+        "503 No\r\nConnection: close\r\n\r\n{\"code\":9}",
+        Talk::Full { need: 9, room: 8 },
+        67,
+        "503, code 9: FILE has no room; 9 bytes needed, 8 free",
+    ),
+    (
+        "503 No\r\nConnection: close\r\n\r\n{\"code\":9}",
+        Talk::Busy { held: 1_000 },
+        67,
+        "503, code 9: the table of ack ids is full; it holds 1000",
+    ),
+    (
+        "400 No\r\nConnection: close\r\n\r\n{\"code\":6}",
+        BROKEN,
+        66,
+        "400, code 6: its bytes break the protocol at byte 7: bad head",
+    ),
+    (
+        "403 No\r\nConnection: close\r\n\r\n{\"code\":4}",
+        Talk::Ended,
+        0,
+        "403, code 4: its token isn't known",
+    ),
+    // what comes after the reply is no reason of it
+    (
+        "401 No\r\nConnection: close\r\n\r\n{\"code\":2}",
+        Talk::ReadFault,
+        71,
+        "401, code 2: it has no token",
+    ),
+    (
+        "503 No\r\nConnection: close\r\n\r\n",
+        Talk::Truncated { at: 4 },
+        75,
+        "503",
+    ),
+];
+
 // Waits of a second for a peer, and none of doors for each other.
 pub(crate) fn waits() -> Waits {
     Waits {
@@ -138,7 +253,7 @@ pub(crate) fn pair<'a, 'h>(
     place: &str,
 ) -> (StagedLink<'a, 'h>, StagedLink<'a, 'h>) {
     let near = net.dial(place).expect(rt, "a port that listens");
-    let far = door.accept().expect(rt, "a connection waits");
+    let far = door.accept(5).expect(rt, "a connection waits");
     (near, far.expect(rt, "no door is shut"))
 }
 
@@ -319,7 +434,7 @@ fn an_entry_that_is_held_up_is_said(
     assert_receiver(rt, staged, "nowhere", line);
 }
 
-// A sender's connection is served to its end, which has this status, and this lacked then, if anything did.
+// A sender's connection is served to its end, which is this one and has this status.
 fn serve_to<'a, 'h>(
     rt: &impl Abort,
     net: &mut StagedNet<'a, 'h>,
@@ -327,31 +442,12 @@ fn serve_to<'a, 'h>(
     place: &str,
     proto: Proto,
     status: u8,
-    shortage: Option<Shortage>,
+    talk: Talk,
 ) {
     let (near, far) = pair(rt, net, door, place);
     net.hang_up(near);
-    assert!(rt; door.give_back(far, proto, 0, status, shortage).is_ok());
+    assert!(rt; door.give_back(far, proto, 0, status, talk).is_ok());
 }
-
-// What is said of a connection that ended since this lacked.
-const SHORT: [(Proto, Shortage, &str); 3] = [
-    (
-        Proto::Lumberjack,
-        Shortage::Room,
-        ": its Lumberjack connection ended with 67: FILE has no room",
-    ),
-    (
-        Proto::Relp,
-        Shortage::Slot,
-        ": its RELP connection ended with 67: the event is larger than a slot of FILE",
-    ),
-    (
-        Proto::Hec,
-        Shortage::Ids,
-        ": its HEC connection ended with 67: the table of ack ids is full",
-    ),
-];
 
 fn endings_are_said_once_a_minute(
     rt: &impl Abort,
@@ -360,25 +456,62 @@ fn endings_are_said_once_a_minute(
     place: &str,
 ) {
     let mut door = bound(rt, staged, net, place);
-    serve_to(rt, net, &mut door, place, Proto::Relp, 0, None);
+    let fault = |at| Talk::Fault {
+        at,
+        why: Why::Digits,
+    };
+    serve_to(rt, net, &mut door, place, Proto::Relp, 0, Talk::Ended);
     assert_silence(rt, staged);
-    let words = ": its RELP connection ended with 66: its bytes break the protocol";
-    serve_to(rt, net, &mut door, place, Proto::Relp, 66, None);
+    let words =
+        ": its RELP connection ended with 66: its bytes break the protocol at byte 23: digits";
+    serve_to(rt, net, &mut door, place, Proto::Relp, 66, fault(23));
     assert_sender(rt, staged, words);
-    serve_to(rt, net, &mut door, place, Proto::Relp, 66, None);
-    serve_to(rt, net, &mut door, place, Proto::Relp, 66, None);
+    // the same at other places
+    serve_to(rt, net, &mut door, place, Proto::Relp, 66, fault(24));
+    serve_to(rt, net, &mut door, place, Proto::Relp, 66, fault(25));
     assert_silence(rt, staged);
-    for (proto, shortage, words) in SHORT {
-        serve_to(rt, net, &mut door, place, proto, 67, Some(shortage));
-        assert_sender(rt, staged, words);
-    }
     staged.pass(MINUTE);
-    serve_to(rt, net, &mut door, place, Proto::Relp, 66, None);
-    let words = ": its bytes break the protocol; 3 times since the last such line";
+    serve_to(rt, net, &mut door, place, Proto::Relp, 66, fault(26));
+    let words = " at byte 26: digits; 3 times since the last such line";
     assert_sender(rt, staged, words);
-    serve_to(rt, net, &mut door, place, Proto::Hec, 73, None);
-    let failed = ": its HEC connection ended with 73: a call on FILE failed";
-    assert_sender(rt, staged, failed);
+}
+
+// Each with its place, its reason and its numbers.
+fn endings_are_said_by_their_kinds(
+    rt: &impl Abort,
+    alloc: Global,
+    staged: &Staged<'_>,
+    net: &mut StagedNet<'_, '_>,
+    place: &str,
+) {
+    let mut door = bound(rt, staged, net, place);
+    for (talk, status, words) in ENDINGS {
+        staged.pass(MINUTE / 600);
+        serve_to(rt, net, &mut door, place, Proto::Lumberjack, status, talk);
+        let line = format!(in alloc; ": its Lumberjack connection ended with {words}");
+        assert_sender(rt, staged, line.expect(rt, "memory").as_str());
+    }
+}
+
+// A reply that ends its connection is said at the connection's end, with that.
+fn last_refusals_are_said_with_the_end(
+    rt: &impl Abort,
+    alloc: Global,
+    staged: &Staged<'_>,
+    net: &mut StagedNet<'_, '_>,
+    place: &str,
+) {
+    let mut door = bound(rt, staged, net, place);
+    for (reply, talk, status, words) in LAST_REPLIES {
+        let text = format!(in alloc; "HTTP/1.1 {reply}").expect(rt, "memory");
+        let (near, mut far) = pair(rt, net, &mut door, place);
+        assert!(rt; far.write(text.as_bytes()) == Ok(text.len()));
+        assert_silence(rt, staged);
+        drop(near);
+        assert!(rt; door.give_back(far, Proto::Hec, 0, status, talk).is_ok());
+        let line = format!(in alloc; ": a request was refused with {words}");
+        assert_sender(rt, staged, line.expect(rt, "memory").as_str());
+    }
 }
 
 // A sender's connection breaks by a reset, after a text of it was read or before one came.
@@ -394,7 +527,10 @@ fn resets_are_said(rt: &impl Abort, staged: &Staged<'_>, net: &mut StagedNet<'_,
         // closed with bytes unread, it resets the connection
         net.hang_up(near);
         assert!(rt; far.read(&mut [0u8; 16]).is_err());
-        assert!(rt; door.give_back(far, Proto::Relp, 0, 71, None).is_ok());
+        assert!(rt;
+            door.give_back(far, Proto::Relp, 0, 71, Talk::ReadFault)
+                .is_ok()
+        );
         if is_read {
             let words = ": its RELP connection ended with 71: it reset the connection";
             assert_sender(rt, staged, words);
@@ -414,13 +550,19 @@ fn waits_in_vain_are_said(
     let (near, mut far) = pair(rt, net, &mut door, place);
     assert!(rt; far.read(&mut [0u8; 8]).is_err());
     drop(near);
-    assert!(rt; door.give_back(far, Proto::Hec, 0, 71, None).is_ok());
+    assert!(rt;
+        door.give_back(far, Proto::Hec, 0, 71, Talk::ReadFault)
+            .is_ok()
+    );
     let words = ": its HEC connection ended with 71: it sent nothing for 1 seconds";
     assert_sender(rt, staged, words);
     let (near, mut far) = pair(rt, net, &mut door, place);
     assert!(rt; write_until_it_fails(&mut far));
     drop(near);
-    assert!(rt; door.give_back(far, Proto::Hec, 0, 72, None).is_ok());
+    assert!(rt;
+        door.give_back(far, Proto::Hec, 0, 72, Talk::WriteFault)
+            .is_ok()
+    );
     let words = ": its HEC connection ended with 72: it took nothing for 1 seconds";
     assert_sender(rt, staged, words);
 }
@@ -461,14 +603,43 @@ fn refusals_are_said_by_their_codes(
         // a second time within a minute, and the connection's end
         assert!(rt; far.write(text.as_bytes()) == Ok(text.len()));
         drop(near);
-        assert!(rt; door.give_back(far, Proto::Hec, 0, 66, None).is_ok());
+        assert!(rt; door.give_back(far, Proto::Hec, 0, 66, BROKEN).is_ok());
         assert_silence(rt, staged);
     }
     // what a peer writes so is no refusal of bridge
     let (mut near, mut far) = pair(rt, net, &mut door, place);
     pass(rt, &mut near, &mut far, "HTTP/1.1 401 No\r\n");
     net.hang_up(near);
-    assert!(rt; door.give_back(far, Proto::Hec, 0, 0, None).is_ok());
+    assert!(rt; door.give_back(far, Proto::Hec, 0, 0, Talk::Ended).is_ok());
+    assert_silence(rt, staged);
+}
+
+// The number of each connection is said at its first bytes, where that is asked for.
+fn connections_are_numbered(
+    rt: &impl Abort,
+    staged: &Staged<'_>,
+    net: &mut StagedNet<'_, '_>,
+    place: &str,
+) {
+    let mut door = bound(rt, staged, net, place);
+    let (mut near, mut far) = pair(rt, net, &mut door, place);
+    assert_silence(rt, staged);
+    pass(rt, &mut near, &mut far, "1 open 0\n");
+    let lines = staged.take_lines(rt);
+    let [line] = lines.as_slice() else {
+        panic!(rt; "one line, not {lines:?}");
+    };
+    let peer = line.strip_prefix("bridge: connection 5 is of sender 127.0.0.1:");
+    assert!(rt;
+        peer.is_some_and(|port| port.parse::<u16>().is_ok()),
+        "{line}"
+    );
+    pass(rt, &mut near, &mut far, "2 close 0\n");
+    // nor of what a receiver sends
+    pass(rt, &mut far, &mut near, "1 rsp 6 200 OK\n");
+    assert_silence(rt, staged);
+    net.hang_up(near);
+    assert!(rt; door.give_back(far, Proto::Relp, 5, 0, Talk::Ended).is_ok());
     assert_silence(rt, staged);
 }
 
@@ -485,9 +656,10 @@ fn a_quiet_net_says_nothing(
     // a second door that doesn't begin
     let mut door = doors.pop().expect(rt, "two doors");
     let (mut near, mut far) = pair(rt, net, &mut door, place);
+    pass(rt, &mut near, &mut far, "POST / HTTP/1.1\r\n");
     pass(rt, &mut far, &mut near, "HTTP/1.1 401 No\r\n");
     net.hang_up(near);
-    assert!(rt; door.give_back(far, Proto::Hec, 0, 66, None).is_ok());
+    assert!(rt; door.give_back(far, Proto::Hec, 0, 66, BROKEN).is_ok());
     for _ in 0..4 {
         net.pause();
         net.report_held_up(place, &REFUSED);
@@ -503,6 +675,9 @@ fn senders_are_said(rt: &impl Abort, alloc: Global, host: &HostRuntime, staged: 
     endings_are_said_once_a_minute(rt, staged, &mut net, &free_place(rt, host));
     let reports = Reports::new();
     let mut net = TcpNet::with_waits(alloc, staged, &reports, waits());
+    endings_are_said_by_their_kinds(rt, alloc, staged, &mut net, &free_place(rt, host));
+    let reports = Reports::new();
+    let mut net = TcpNet::with_waits(alloc, staged, &reports, waits());
     resets_are_said(rt, staged, &mut net, &free_place(rt, host));
     let reports = Reports::new();
     let mut net = TcpNet::with_waits(alloc, staged, &reports, waits());
@@ -510,6 +685,12 @@ fn senders_are_said(rt: &impl Abort, alloc: Global, host: &HostRuntime, staged: 
     let reports = Reports::new();
     let mut net = TcpNet::with_waits(alloc, staged, &reports, waits());
     refusals_are_said_by_their_codes(rt, staged, &mut net, &free_place(rt, host));
+    let reports = Reports::new();
+    let mut net = TcpNet::with_waits(alloc, staged, &reports, waits());
+    last_refusals_are_said_with_the_end(rt, alloc, staged, &mut net, &free_place(rt, host));
+    let reports = Reports::new().with_verbose(true);
+    let mut net = TcpNet::with_waits(alloc, staged, &reports, waits());
+    connections_are_numbered(rt, staged, &mut net, &free_place(rt, host));
 }
 
 // The receiver's side.
@@ -538,7 +719,7 @@ pub(crate) fn the_net_says_what_befalls_it(rt: &impl Abort, alloc: Global, host:
     a_monitor_is_said(rt, &staged, &mut net, &free_place(rt, host));
     senders_are_said(rt, alloc, host, &staged);
     receivers_are_said(rt, alloc, host, &staged);
-    let quiet = Reports::quiet();
+    let quiet = Reports::quiet().with_verbose(true);
     let mut net = TcpNet::with_waits(alloc, &staged, &quiet, waits());
     a_quiet_net_says_nothing(rt, &staged, &mut net, &free_place(rt, host));
 }

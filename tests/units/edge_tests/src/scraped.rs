@@ -2,8 +2,9 @@
 use crate::said::{bound, pair, pass, waits};
 use crate::sockets::free_place;
 use crate::staged::Staged;
-use edge_io::{Door, EventCounts, HeldUp, Monitor, Net, Proto, Shortage, Sink, SpoolNumbers};
+use edge_io::{Door, EventCounts, HeldUp, Monitor, Net, Proto, Sink, SpoolNumbers};
 use edge_net::{Reports, TcpMonitor, TcpNet};
+use event_form::Talk;
 use std::alloc::Global;
 use std::io::{self, Write};
 use std::net::{Shutdown, TcpStream};
@@ -15,7 +16,7 @@ type StagedMonitor<'a, 'h> = TcpMonitor<'a, Staged<'h>>;
 const SECOND: u64 = 1_000;
 
 // A spool in which the entries from 990 on are pending, but for three of them.
-const NUMBERS: SpoolNumbers = SpoolNumbers {
+pub(crate) const NUMBERS: SpoolNumbers = SpoolNumbers {
     run: 7,
     end: 1_002,
     cursor: 990,
@@ -113,10 +114,8 @@ fn fullness_is_said(rt: &impl Abort, alloc: Global, host: &HostRuntime, staged: 
     let _ = staged.take_lines(rt);
     let (near, far) = pair(rt, &mut net, &mut door, &senders);
     net.hang_up(near);
-    assert!(rt;
-        door.give_back(far, Proto::Relp, 0, 67, Some(Shortage::Room))
-            .is_ok()
-    );
+    let talk = Talk::Full { need: 9, room: 8 };
+    assert!(rt; door.give_back(far, Proto::Relp, 0, 67, talk).is_ok());
     let _ = staged.take_lines(rt);
     let line = "bridge: FILE has no room; nothing is acknowledged until it has";
     for (numbers, line) in [

@@ -1,6 +1,7 @@
 //! Links, doors and a net over the loopback's sockets.
 use edge_io::{Door, Net, NetFault, Pause, Proto, ReadFault, Sink, Source, Stopped, write_whole};
 use edge_net::{Reports, TcpDoor, TcpLink, TcpNet, Waits};
+use event_form::Talk;
 use std::net::TcpListener;
 use std::process::Abort;
 use std::rt::Clock;
@@ -22,7 +23,7 @@ pub(crate) fn pair<'a>(
     place: &str,
 ) -> (TcpLink<'a, HostRuntime>, TcpLink<'a, HostRuntime>) {
     let near = net.dial(place).expect(rt, "a port that listens");
-    let far = door.accept().expect(rt, "a connection waits");
+    let far = door.accept(0).expect(rt, "a connection waits");
     (near, far.expect(rt, "no door is shut"))
 }
 
@@ -63,7 +64,7 @@ fn links_are_dialed_accepted_read_and_written(
         pass(rt, &mut far, &mut near, b"answer");
         net.hang_up(near);
         assert!(rt; far.read(&mut [0u8; 16]) == Ok(0), "the peer has hung up");
-        assert!(rt; door.give_back(far, Proto::Relp, 0, 0, None).is_ok());
+        assert!(rt; door.give_back(far, Proto::Relp, 0, 0, Talk::Ended).is_ok());
     }
 }
 
@@ -101,7 +102,7 @@ fn a_peer_that_resets_is_a_fault(rt: &impl Abort, net: &mut TcpNet<'_, HostRunti
     net.hang_up(near);
     assert!(rt; far.read(&mut [0u8; 16]) == Err(ReadFault));
     assert!(rt; far.write(b"more").is_err());
-    assert!(rt; door.give_back(far, Proto::Relp, 0, 0, None).is_ok());
+    assert!(rt; door.give_back(far, Proto::Relp, 0, 0, Talk::Ended).is_ok());
 }
 
 // A peer that is silent and stays is given up.
@@ -113,7 +114,10 @@ fn a_silent_peer_is_given_up<'a>(
 ) {
     let (mut silent, unread) = pair(rt, net, door, place);
     let start = Instant::now(rt).expect(rt, "a clock");
-    assert!(rt; door.give_back(unread, Proto::Hec, 0, 66, None).is_ok());
+    assert!(rt;
+        door.give_back(unread, Proto::Hec, 0, 66, Talk::NoMemory)
+            .is_ok()
+    );
     let waited = start.elapsed(rt).expect(rt, "a clock");
     assert!(rt; waited < Duration::from_secs(20));
     assert!(rt; silent.read(&mut [0u8; 16]) == Ok(0));
@@ -136,7 +140,9 @@ fn answers_and_gives_back<'a>(
     mut link: TcpLink<'a, HostRuntime>,
 ) -> bool {
     let answered = write_whole(&mut link, b"answer").is_ok();
-    let given = door.give_back(link, Proto::Hec, 0, 66, None).is_ok();
+    let given = door
+        .give_back(link, Proto::Hec, 0, 66, Talk::NoMemory)
+        .is_ok();
     answered && given
 }
 

@@ -33,7 +33,7 @@ fn nets_and_disks(rt: &impl Abort, alloc: Global) {
     pages::a_held_part_survives_a_fault(rt, alloc);
     ranges::ranges_are_what_was_written(rt);
     ranges::ranges_have_room_for_64(rt);
-    lines::lines_are_few_and_count_the_rest(rt);
+    lines::lines_are_few_and_count_the_rest(rt, alloc);
 }
 
 #[test]

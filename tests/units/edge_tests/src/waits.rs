@@ -2,6 +2,7 @@
 use crate::sockets::{bound, free_place, pair};
 use edge_io::{Door, Proto, ReadFault, Sink, Source, write_whole};
 use edge_net::{LinkSettings, Reports, TcpDoor, TcpLink, TcpNet, Waits};
+use event_form::Talk;
 use std::io::Write;
 use std::net::TcpStream;
 use std::process::Abort;
@@ -118,7 +119,7 @@ fn a_peer_that_sends_on_is_given_up(
 ) {
     let mut door = bound(rt, net, place);
     let near = TcpStream::connect(host, place).expect(rt, "it listens");
-    let far = door.accept().expect(rt, "a connection waits");
+    let far = door.accept(0).expect(rt, "a connection waits");
     let far = far.expect(rt, "no door is shut");
     let (sent, waited) = thread::join(
         rt,
@@ -140,7 +141,7 @@ fn gives_back<'a>(
     link: TcpLink<'a, HostRuntime>,
 ) -> Option<Duration> {
     let start = Instant::now(rt).ok()?;
-    door.give_back(link, Proto::Relp, 0, 0, None).ok()?;
+    door.give_back(link, Proto::Relp, 0, 0, Talk::Ended).ok()?;
     start.elapsed(rt).ok()
 }
 

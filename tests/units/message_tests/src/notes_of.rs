@@ -1,11 +1,18 @@
 //! Faults beside the notes that the program ends with, and beside the replies and the lines that it writes.
 use body_faults::{AckFault, BodyFault};
+use bridge_rescue::{SlotFault as Unsound, Why as Unsoundness};
+use cli_parts::NoArguments;
 use disk_cell::{LoadFault, SetFault};
+use edge_disk::DiskFault;
 use edge_file::{OpenFault, PairFault};
-use event_form::Why;
+use edge_io::{AcceptFault, NetFault, ReadFault, Stopped, WriteFault};
+use event_form::{EntryFault, FeedFault, Talk, Why};
+use forward_core::Sent;
 use hec_ids::IssueFault;
 use hec_session::{HecCode, HecSay, say_body};
 use http_edge::{HttpFault, HttpWhy};
+use json_span::JsonFault;
+use load_run::LoadFault as Unloaded;
 use lumber_frame::{LumberFault, LumberWhy};
 use notes::{Note, note_text};
 use relp_frame::{RelpFault, RelpWhy};
@@ -326,4 +333,86 @@ pub fn faults_of_files(rt: &impl Abort, alloc: Global) {
     );
     says(rt, alloc, PairFault::OneFile, "both names are of one file");
     is_said(rt, alloc, OpenFault::NoMemory, Note::NoMemory);
+}
+
+pub fn faults_of_edges(rt: &impl Abort, alloc: Global) {
+    is_said(rt, alloc, DiskFault, Note::DiskFault);
+    is_said(rt, alloc, ReadFault, Note::ReadFault);
+    is_said(rt, alloc, WriteFault, Note::WriteFault);
+    is_said(rt, alloc, Stopped { sent: 37 }, Note::WriteFault);
+    is_said(rt, alloc, AcceptFault, Note::NetFault);
+    is_said(rt, alloc, NetFault::Fault, Note::NetFault);
+    is_said(rt, alloc, NetFault::NoMemory, Note::NoMemory);
+}
+
+pub fn faults_of_json(rt: &impl Abort, alloc: Global) {
+    says(rt, alloc, JsonFault::Cut, "JSON ends too early");
+    says(rt, alloc, JsonFault::NotJson { at: 41 }, "no JSON at 41");
+    says(
+        rt,
+        alloc,
+        JsonFault::TooDeep { at: 43 },
+        "JSON too deep at 43",
+    );
+}
+
+pub fn faults_of_readers(rt: &impl Abort, alloc: Global) {
+    let at = 29;
+    says(rt, alloc, EntryFault::BadEntry { at: 25 }, "no entry at 25");
+    is_said(rt, alloc, EntryFault::NoMemory, Note::NoMemory);
+    is_said(
+        rt,
+        alloc,
+        FeedFault::Fault(RelpFault {
+            at,
+            why: RelpWhy::Trailer,
+        }),
+        Note::Fault {
+            at,
+            why: Why::Trailer,
+        },
+    );
+    is_said(rt, alloc, FeedFault::<HttpFault>::NoMemory, Note::NoMemory);
+}
+
+pub fn faults_of_loads(rt: &impl Abort, alloc: Global) {
+    let talk = Talk::WriteFault;
+    says(rt, alloc, Unloaded::Replayed { talk }, "the replay failed");
+    let sent = Sent::PeerClosed;
+    says(rt, alloc, Unloaded::Drained { sent }, "the drain failed");
+    is_said(rt, alloc, Unloaded::NoMemory, Note::NoMemory);
+}
+
+pub fn faults_of_slots(rt: &impl Abort, alloc: Global) {
+    for (why, text) in [
+        (Unsoundness::Cut, "slot 5: FILE ends at byte 16401"),
+        (
+            Unsoundness::Broken { before: 7 },
+            "slot 5: no whole group at byte 16401; entries before it: 7",
+        ),
+        (
+            Unsoundness::Unheld,
+            "slot 5: no whole group at byte 16401; no memory for the entries before it",
+        ),
+        (
+            Unsoundness::TooHigh,
+            "slot 5: numbers above 2^63 at byte 16401",
+        ),
+        (
+            Unsoundness::Unread,
+            "slot 5: a read failed, from byte 16401 on",
+        ),
+    ] {
+        let fault = Unsound {
+            place: 5,
+            at: 16401,
+            why,
+        };
+        says(rt, alloc, fault, text);
+    }
+}
+
+pub fn faults_of_arguments(rt: &impl Abort, alloc: Global) {
+    says(rt, alloc, NoArguments::NoText, "a word is no UTF-8");
+    is_said(rt, alloc, NoArguments::NoMemory, Note::NoMemory);
 }

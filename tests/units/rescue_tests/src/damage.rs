@@ -55,10 +55,11 @@ pub(crate) fn closed_gates_end_slots(rt: &impl Abort, alloc: Global) {
     is_as(rt, alloc, &none, 65, b"abcg", 2, &[], &[(3, 6)]);
 }
 
-/// A group that is at fault puts its slot at fault, at the group's gate, and nothing of that slot is printed.
+/// A group that is at fault puts its slot at fault, at the group's gate: the groups before it are printed, and nothing after it. The numbers
+/// of what isn't printed are missing.
 pub(crate) fn broken_groups_put_slots_at_fault(rt: &impl Abort, alloc: Global) {
     let gate = SLOTS[1] + FIRST + GROUP;
-    let due = [(1, Why::Broken, gate as u64)];
+    let due = [(1, Why::Broken { before: 1 }, gate as u64)];
     // (its length, its count, its entry's origin, and its entry's length)
     for (offset, bytes) in [
         (1, [0, 0, 0, 9]),
@@ -67,7 +68,17 @@ pub(crate) fn broken_groups_put_slots_at_fault(rt: &impl Abort, alloc: Global) {
         (34, [0, 0, 3, 231]),
     ] {
         let broken = rescued(rt, alloc, None, &damaged(rt, alloc, gate + offset, &bytes));
-        is_as(rt, alloc, &broken, 65, b"abcg", 2, &due, &[(3, 6)]);
+        is_as(rt, alloc, &broken, 65, b"abcdg", 2, &due, &[(4, 6)]);
+    }
+    for (count, letters, missing) in [
+        (0, b"abcg".as_slice(), (3, 6)),
+        (2, b"abcdeg".as_slice(), (5, 6)),
+    ] {
+        let at = SLOTS[1] + FIRST + count * GROUP;
+        let broken = rescued(rt, alloc, None, &damaged(rt, alloc, at + 1, &[255]));
+        let before = count as u64;
+        let due = [(1, Why::Broken { before }, at as u64)];
+        is_as(rt, alloc, &broken, 65, letters, 2, &due, &[missing]);
     }
     // A gate that is open over what isn't a group, at the end of a slot.
     let end = SLOTS[0] + FIRST + 3 * GROUP;
@@ -77,11 +88,45 @@ pub(crate) fn broken_groups_put_slots_at_fault(rt: &impl Abort, alloc: Global) {
         alloc,
         &opened,
         65,
-        b"defg",
+        b"abcdefg",
         2,
-        &[(0, Why::Broken, end as u64)],
+        &[(0, Why::Broken { before: 3 }, end as u64)],
         &[],
     );
+}
+
+/// Two slots with a group at fault are printed in order of their first numbers, each up to its fault; but one whose numbers are too great
+/// isn't.
+pub(crate) fn fronts_stand_in_order(rt: &impl Abort, alloc: Global) {
+    let mut device = damaged(rt, alloc, SLOTS[0] + FIRST + 2 * GROUP + 1, &[255]);
+    let second = SLOTS[1] + FIRST + GROUP;
+    change(&mut device, second + 5, 0);
+    change(&mut device, second + 8, 9);
+    let due = [
+        (
+            0,
+            Why::Broken { before: 2 },
+            (SLOTS[0] + FIRST + 2 * GROUP) as u64,
+        ),
+        (1, Why::Broken { before: 1 }, second as u64),
+    ];
+    let both = rescued(rt, alloc, None, &device);
+    is_as(rt, alloc, &both, 65, b"abdg", 1, &due, &[(2, 3), (4, 6)]);
+    // (the first slot is numbered from 9 on)
+    change(&mut device, SLOTS[0] + 16, 9);
+    let later = rescued(rt, alloc, None, &device);
+    is_as(rt, alloc, &later, 65, b"dgab", 1, &due, &[(4, 6), (7, 9)]);
+    change(&mut device, SLOTS[0] + 9, 128);
+    let high = rescued(rt, alloc, None, &device);
+    let due = [(0, Why::TooHigh, SLOTS[0] as u64), due[1]];
+    is_as(rt, alloc, &high, 65, b"dg", 1, &due, &[(4, 6)]);
+}
+
+// Another byte of the device.
+fn change(device: &mut [u8], at: usize, byte: u8) {
+    if let Some(place) = device.get_mut(at) {
+        *place = byte;
+    }
 }
 
 /// A slot is printed by its own first number, whatever that is; but where it is too great the slot is at fault.
@@ -111,7 +156,7 @@ pub(crate) fn short_devices_have_slots(rt: &impl Abort, alloc: Global) {
     let both = rescued(rt, alloc, None, &front(rt, alloc, &broken, SLOTS[1] + 5));
     let gate = (SLOTS[0] + FIRST) as u64;
     let due = [
-        (0, Why::Broken, gate),
+        (0, Why::Broken { before: 0 }, gate),
         (1, Why::Cut, 16_389),
         (2, Why::Cut, 16_389),
     ];

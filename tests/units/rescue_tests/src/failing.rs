@@ -1,5 +1,5 @@
 //! Reads and writes that fail.
-use crate::devices::{SLOTS, copied, device, is_as, rescue};
+use crate::devices::{SLOTS, copied, damaged, device, is_as, rescue};
 use bridge_rescue::Why;
 use edge_memory::MemDisk;
 use std::alloc::Global;
@@ -53,4 +53,39 @@ pub(crate) fn each_read_fails(rt: &impl Abort, alloc: Global) {
     }
     // Each slot was looked at by more than one call.
     assert!(rt; failures > 6 && failures < 99 && unread >= 6);
+}
+
+/// Each call of the disk fails in turn, where the last group of a slot is at fault. The status is 73: the slot is one that was not read, and
+/// all others are printed, or the run ended as it printed.
+pub(crate) fn each_read_of_a_front_fails(rt: &impl Abort, alloc: Global) {
+    // (the origin of the third entry of the second slot)
+    let bytes = damaged(rt, alloc, SLOTS[1] + 17 + 2 * 1038 + 9, &[9]);
+    let mut unread = 0u64;
+    let mut stopped = 0u64;
+    for call in 0..100u64 {
+        let mut failing = Vec::new(alloc);
+        failing.push(call).ok().expect(rt, "memory");
+        let disk = MemDisk::of(copied(rt, alloc, &bytes), failing);
+        let ending = rescue(rt, alloc, None, disk, &[]);
+        assert!(rt; ending.disk.bytes() == bytes.as_slice());
+        if ending.status == 65 {
+            break;
+        }
+        assert!(rt; ending.status == 73, "{call}");
+        let Some(report) = &ending.report else {
+            continue;
+        };
+        match report.faults.iter().find(|fault| fault.why == Why::Unread) {
+            Some(fault) => {
+                unread = unread.saturating_add(u64::from(fault.place == 1));
+                assert!(rt; report.printed.is_some());
+            }
+            None => {
+                stopped = stopped.saturating_add(1);
+                assert!(rt; report.printed.is_none() && ending.printed.is_empty());
+            }
+        }
+    }
+    // (the slot with the fault is looked at twice, and read once more as it is printed)
+    assert!(rt; unread >= 3 && stopped >= 3);
 }

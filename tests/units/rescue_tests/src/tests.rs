@@ -1,9 +1,9 @@
 //! All that holds of a rescue.
 use crate::damage::{
-    broken_groups_put_slots_at_fault, closed_gates_end_slots, headers_are_replaced,
-    numbers_order_slots, short_devices_have_slots, whole_slots_are_printed,
+    broken_groups_put_slots_at_fault, closed_gates_end_slots, fronts_stand_in_order,
+    headers_are_replaced, numbers_order_slots, short_devices_have_slots, whole_slots_are_printed,
 };
-use crate::failing::{a_write_fails, each_read_fails};
+use crate::failing::{a_write_fails, each_read_fails, each_read_of_a_front_fails};
 
 #[test]
 fn damage(rt: HostRuntime) {
@@ -12,6 +12,7 @@ fn damage(rt: HostRuntime) {
     headers_are_replaced(&rt, alloc);
     closed_gates_end_slots(&rt, alloc);
     broken_groups_put_slots_at_fault(&rt, alloc);
+    fronts_stand_in_order(&rt, alloc);
     numbers_order_slots(&rt, alloc);
     short_devices_have_slots(&rt, alloc);
 }
@@ -21,4 +22,5 @@ fn what_fails(rt: HostRuntime) {
     let alloc = rt.alloc();
     a_write_fails(&rt, alloc);
     each_read_fails(&rt, alloc);
+    each_read_of_a_front_fails(&rt, alloc);
 }

@@ -14,8 +14,8 @@ loop-place-init g c =
       room = c.requires.room;
       calls = calls_as ⊥ (HasUnread looked.faults.items) m m (calls_none m) (λ has. unread_some looked.faults.items has c.requires.room.few_faults) (λ never. absurd never);
       told = λ tells. untouched_refl m;
-      readable = λ k d lt. absurd (omega (arith, lt, c.requires.room.few_sound));
-      known = λ tells. knows_none c.args.layout.size m.reads looked c.requires.room.few_sound c.requires.room.few_faults;
+      readable = λ k d lt. absurd (omega (arith, lt, c.requires.room.few_found));
+      known = λ tells. knows_none c.args.layout.size m.reads looked c.requires.room.few_found c.requires.room.few_faults c.requires.room.few_sound;
     }
 
 pub loop-place-preserved : goal.loop-place-preserved

@@ -1,26 +1,26 @@
-use Rattle.std.proofs.Common.{ℕ, List, All, inl, inr, ap, refl, sym, ◌∙◌, subst, arith}
+use Rattle.std.proofs.Common.{ℕ, List, inl, inr, ap, refl, sym, ◌∙◌, subst}
 use Rattle.std.specs.Prelude.{Some}
 use Rattle.edge_disk.proofs.Moments.{untouched_then}
 use Rattle.conn_serve.proofs.Faults.{counts_as}
-use Rattle.spool_slots.specs.declared.slot.Slot.{Slot}
 use Rattle.bridge_parts.specs.Run.{output_run}
 use Rattle.bridge_rescue.specs.declared.fault.SlotFault.{SlotFault}
 use Rattle.bridge_rescue.specs.declared.gaps.Span.{Span}
+use Rattle.bridge_rescue.specs.declared.found.Found.{Found}
 use Rattle.bridge_rescue.specs.Faults.{IsVerdict}
 use Rattle.bridge_rescue.specs.Gaps.{gaps_in, spans_of}
-use Rattle.bridge_rescue.specs.Looking.{IsReadableSlot, AreKnown}
+use Rattle.bridge_rescue.specs.Looking.{AreReadable, AreKnown}
 use Rattle.bridge_rescue.proofs.Ending.{verdict_known, verdict_written, print_unfinished, calls_whole, rescues_by}
 use Rattle.bridge_rescue.proofs.top.rescue_slots.Goals as goal
 
 pub find_gaps-requires-clause-readable : goal.find_gaps-requires-clause-readable
-find_gaps-requires-clause-readable g c = (_, subst (All (IsReadableSlot _)) (sym c.deref.ensures.value) c.look_at_all.ensures.readable)
+find_gaps-requires-clause-readable g c = (_, subst (AreReadable _) (sym c.deref.ensures.value) c.look_at_all.ensures.readable)
 
 pub print_slots-requires-clause-readable : goal.print_slots-requires-clause-readable
 print_slots-requires-clause-readable g c =
     let looked = c.look_at_all.new.looked in
     let size = c.look_at_all.ensures.calls.size in
-    subst (All (IsReadableSlot (g.D.Disk.moment c.look_at_all.new.disk).size)) (sym c.deref-2.ensures.value)
-    (subst (λ (n : ℕ). All (IsReadableSlot n) looked.sound.items) (sym size) c.look_at_all.ensures.readable)
+    subst (AreReadable (g.D.Disk.moment c.look_at_all.new.disk).size) (sym c.deref-2.ensures.value)
+    (subst (λ (n : ℕ). AreReadable n looked.found.items) (sym size) c.look_at_all.ensures.readable)
 
 -- all were printed
 
@@ -47,13 +47,13 @@ returns-in-Ok-print_slots-clause-done g c = λ tells.
     let reads = (g.D.Disk.moment c.args.disk.now).reads in
     let knows = c.look_at_all.ensures.known tells in
     let same = (c.look_at_all.ensures.told tells).same in
-    let known = subst (λ (l : List Slot). AreKnown knows.sound l (g.D.Disk.moment c.look_at_all.new.disk).reads) (sym c.deref-2.ensures.value)
-    (subst (AreKnown knows.sound looked.sound.items) (sym same) knows.known) in
-    let printed = c.in-Ok-print_slots.ensures.printed knows.sound tells known in
+    let known = subst (λ (l : List Found). AreKnown knows.found l (g.D.Disk.moment c.look_at_all.new.disk).reads) (sym c.deref-2.ensures.value)
+    (subst (AreKnown knows.found looked.found.items) (sym same) knows.known) in
+    let printed = c.in-Ok-print_slots.ensures.printed knows.found tells known in
     let verdict = subst (λ (l : List SlotFault). IsVerdict l c.find_gaps.new.gaps.items c.verdict-note.result) c.deref-in-Ok-print_slots.ensures.value
     (subst (λ (l : List Span). IsVerdict c.deref-in-Ok-print_slots.result.now l c.verdict-note.result) c.deref-in-Ok-print_slots-2.ensures.value c.verdict-note.ensures) in
-    rescues_by c.args.layout reads knows.sound looked.sound.items _ (output_run g.K.Sink.taken g.K.Sink.write_faults c.args.output.now c.print_slots.new.output) c.verdict-note.result
-    knows.known knows.judged refl (omega arith) (c.find_gaps.ensures ∙ ap (λ (l : List Slot). gaps_in (spans_of l)) c.deref.ensures.value) (inl (printed.0, ap Some printed.1, verdict))
+    rescues_by c.args.layout reads knows.found looked.found.items _ (output_run g.K.Sink.taken g.K.Sink.write_faults c.args.output.now c.print_slots.new.output) c.verdict-note.result
+    knows.known knows.judged refl knows.counted (c.find_gaps.ensures ∙ ap (λ (l : List Found). gaps_in (spans_of l)) c.deref.ensures.value) (inl (printed.0, ap Some printed.1, verdict))
 
 -- not all were
 
@@ -67,8 +67,8 @@ returns-clause-done g c = λ tells.
     let reads = (g.D.Disk.moment c.args.disk.now).reads in
     let knows = c.look_at_all.ensures.known tells in
     let same = (c.look_at_all.ensures.told tells).same in
-    let known = subst (λ (l : List Slot). AreKnown knows.sound l (g.D.Disk.moment c.look_at_all.new.disk).reads) (sym c.deref-2.ensures.value)
-    (subst (AreKnown knows.sound looked.sound.items) (sym same) knows.known) in
-    let printed = c.in-Err.ensures.printed knows.sound tells known in
-    rescues_by c.args.layout reads knows.sound looked.sound.items _ (output_run g.K.Sink.taken g.K.Sink.write_faults c.args.output.now c.print_slots.new.output) c.in-Err.note
-    knows.known knows.judged refl (omega arith) (c.find_gaps.ensures ∙ ap (λ (l : List Slot). gaps_in (spans_of l)) c.deref.ensures.value) (inr (printed, refl, print_unfinished c.in-Err.note c.in-Err.ensures.known))
+    let known = subst (λ (l : List Found). AreKnown knows.found l (g.D.Disk.moment c.look_at_all.new.disk).reads) (sym c.deref-2.ensures.value)
+    (subst (AreKnown knows.found looked.found.items) (sym same) knows.known) in
+    let printed = c.in-Err.ensures.printed knows.found tells known in
+    rescues_by c.args.layout reads knows.found looked.found.items _ (output_run g.K.Sink.taken g.K.Sink.write_faults c.args.output.now c.print_slots.new.output) c.in-Err.note
+    knows.known knows.judged refl knows.counted (c.find_gaps.ensures ∙ ap (λ (l : List Found). gaps_in (spans_of l)) c.deref.ensures.value) (inr (printed, refl, print_unfinished c.in-Err.note c.in-Err.ensures.known))

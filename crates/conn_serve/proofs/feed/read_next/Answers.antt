@@ -1,6 +1,3 @@
-use Rattle.std.proofs.Common.{ℕ, List, Option, Result, Ok, Err, refl, sym, subst}
-use Rattle.std.specs.Io.KnownBytes.{ReadConsumes, WriteAppends}
-use Rattle.foundation.specs.Faults.{HasCause}
 use Rattle.conn_serve.proofs.feed.read_next.Goals as goal
 
 pub returns-in-Err : goal.returns-in-Err
@@ -15,6 +12,7 @@ returns-in-Err g c =
       cause = rw (← kept.2) read.cause;
       same = g.L.Object.same_trans _ _ _ first.same read.same;
       apart = g.met.L.Source.read_apart_trans _ _ _ first.reads read.apart;
+      rests = c.rest.ensures;
     }
 
 pub returns : goal.returns
@@ -31,4 +29,5 @@ returns g c =
       cause = rw (← kept.2, last.2) read.cause;
       same = g.L.Object.same_trans _ _ _ (g.L.Object.same_trans _ _ _ first.same read.same) second.same;
       apart = g.met.L.Source.read_apart_trans _ _ _ (g.met.L.Source.read_apart_trans _ _ _ first.reads read.apart) second.reads;
+      rests = c.rest.ensures;
     }

@@ -33,13 +33,14 @@ returns-in-Err g c =
 pub take_in-requires : goal.take_in-requires
 take_in-requires g c =
     let few : c.in-Ok.len ≤ length c.args.buf.now = omega (arith, c.in-Ok.ensures.bound) in
+    let rests = c.in-Ok.ensures.rests in
     record {
-      idle = c.requires.idle;
-      fits = piece_fits _ _ _ _ _ few c.requires.fits;
-      so_far = so_far_less _ _ _ _ (piece_few _ _ _ few) c.requires.so_far;
+      idle = rw rests c.requires.idle;
+      fits = rw rests (piece_fits _ _ _ _ _ few c.requires.fits);
+      so_far = rw rests (so_far_less _ _ _ _ (piece_few _ _ _ few) c.requires.so_far);
       may = c.requires.may;
-      says = says_read (g.A.Access.ran c.args.access.now) (g.L.Sink.permits c.read_next.new.link) (g.L.Sink.taken c.args.link.now) (g.L.Sink.taken c.read_next.new.link) _ (g.met.L.Link.reads_keep _ _ c.in-Ok.ensures.apart).0
-          (c.requires.says c.read_next.new.link (take c.in-Ok.len c.read_next.new.buf) c.in-Ok.ensures.same c.in-Ok.ensures.given);
+      says = rw rests (says_read (g.A.Access.ran c.args.access.now) (g.L.Sink.permits c.read_next.new.link) (g.L.Sink.taken c.args.link.now) (g.L.Sink.taken c.read_next.new.link) _ (g.met.L.Link.reads_keep _ _ c.in-Ok.ensures.apart).0
+          (c.requires.says c.read_next.new.link (take c.in-Ok.len c.read_next.new.buf) c.in-Ok.ensures.same c.in-Ok.ensures.given));
     }
 
 pub returns-in-Ok-take_in-clause-room : goal.returns-in-Ok-take_in-clause-room
@@ -50,8 +51,8 @@ returns-in-Ok-take_in-clause-goes g c =
     let read = c.in-Ok.ensures in
     let call = c.in-Ok-take_in.ensures in
     let kept = g.met.L.Link.writes_keep _ _ call.apart in
-    turn_read _ _ _ _ _ _ _ _ _ _ _ _ _ _ read.given kept.0 read.left.0 kept.1 call.bytes (g.met.L.Link.reads_keep _ _ read.apart).0
-    (done_map _ _ _ _ _ _ _ call.goes (λ calls text is. (piece_size _ _ read.bound, is)))
+    rw (← read.rests) (turn_read _ _ _ _ _ _ _ _ _ _ _ _ _ _ read.given kept.0 read.left.0 kept.1 call.bytes (g.met.L.Link.reads_keep _ _ read.apart).0
+    (done_map _ _ _ _ _ _ _ call.goes (λ calls text is. (piece_size _ _ read.bound, is))))
 
 pub returns-in-Ok-take_in-clause-halts : goal.returns-in-Ok-take_in-clause-halts
 returns-in-Ok-take_in-clause-halts g c = tt
@@ -69,10 +70,10 @@ pub returns-in-Ok-take_in-clause-idle : goal.returns-in-Ok-take_in-clause-idle
 returns-in-Ok-take_in-clause-idle g c = c.in-Ok-take_in.ensures.idle
 
 pub returns-in-Ok-take_in-clause-extent : goal.returns-in-Ok-take_in-clause-extent
-returns-in-Ok-take_in-clause-extent g c = piece_adds _ _ _ _ c.in-Ok-take_in.ensures.extent
+returns-in-Ok-take_in-clause-extent g c = rw (← c.in-Ok.ensures.rests) (piece_adds _ _ _ _ c.in-Ok-take_in.ensures.extent)
 
 pub returns-in-Ok-take_in-clause-terms : goal.returns-in-Ok-take_in-clause-terms
-returns-in-Ok-take_in-clause-terms g c = c.in-Ok-take_in.ensures.terms
+returns-in-Ok-take_in-clause-terms g c = rw (← c.in-Ok.ensures.rests) c.in-Ok-take_in.ensures.terms
 
 pub returns-in-Ok-take_in-clause-number : goal.returns-in-Ok-take_in-clause-number
 returns-in-Ok-take_in-clause-number g c = c.in-Ok-take_in.ensures.number
@@ -103,8 +104,8 @@ returns-in-Err-take_in g c =
     record {
       room = tt;
       goes = tt;
-      halts = turn_read _ _ _ _ _ _ _ _ _ _ _ _ _ _ read.given kept.0 read.left.0 kept.1 call.bytes keeps.0
-          (done_map _ _ _ _ _ _ _ call.halts (λ calls text is fed called said counted served. is fed called said counted served (g.L.Source.left c.take_in.new.link)));
+      halts = rw (← read.rests) (turn_read _ _ _ _ _ _ _ _ _ _ _ _ _ _ read.given kept.0 read.left.0 kept.1 call.bytes keeps.0
+          (done_map _ _ _ _ _ _ _ call.halts (λ calls text is fed called said counted served. is fed called said counted served (g.L.Source.left c.take_in.new.link))));
       end = tt;
       only = inr call.only;
       idle = tt;

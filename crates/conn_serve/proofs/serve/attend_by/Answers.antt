@@ -18,6 +18,7 @@ use Rattle.conn_serve.proofs.Beginning.{none_carried}
 use Rattle.conn_serve.proofs.Batching.{handles_none}
 use Rattle.conn_serve.proofs.RelpSessions as relp_sessions
 use Rattle.conn_serve.proofs.LumberSessions as lumber_sessions
+use Rattle.conn_serve.proofs.HecIntake.{extent_new, idle_new}
 use Rattle.conn_serve.proofs.HecSessions as hec_sessions
 use Rattle.conn_serve.proofs.Faults.{counts_none}
 use Rattle.conn_serve.proofs.Running.{serves_as, serves_none}
@@ -67,14 +68,13 @@ run-requires-in-Ok-new-2 g c =
     let session = c.in-Ok-new-2.session in
     let new = c.in-Ok-new-2.ensures in
     let core = with_list _ _ _ _ _ c.share.ensures new.core in
-    let none = ap (λ (w : Requests). w.reading.waiting) new.window in
-    let sound = ap (λ (w : Requests). w.reading.fault) new.window in
+    let idle = idle_new session.intake session.met new.window new.refused new.met in
     record {
       some = c.requires.some;
-      start = rw new.met (hec_sessions.served_none session.core c.args.conn session.window new.reads sound);
-      idle = rw (new.window, new.met) (record { none = refl; space = omega arith; found = λ is. cc });
-      unfed = rw new.window refl;
-      may_end = hec_sessions.may_end session.core c.args.conn session.window session.met none new.met;
+      start = rw new.met (hec_sessions.kept_new session.core c.args.conn session.intake new.reads (ap (λ (w : Requests). w.reading.fault) new.window) new.refused);
+      idle = idle;
+      unfed = extent_new session.intake new.window new.refused;
+      may_end = hec_sessions.kept_may_end session.core c.args.conn session.intake session.met idle new.met;
       first = refl;
       may = c.requires.may;
       says = rw (c.in-Hec.is, ← core) at c.requires.says;

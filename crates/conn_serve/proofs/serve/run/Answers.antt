@@ -1,5 +1,5 @@
 use Rattle.edge_io.proofs.Known.{appends_then}
-use Rattle.std.proofs.Common.{refl, ◌++◌, ℕ, ◌∙◌, sym, subst, arith, length-take}
+use Rattle.std.proofs.Common.{◌++◌, ℕ, ◌∙◌, sym, subst, arith, length-take}
 use Rattle.conn_serve.specs.Terms.{Terms}
 use Rattle.conn_serve.specs.Done.{told}
 use Rattle.conn_serve.specs.Endings.{MayEnd}
@@ -75,7 +75,7 @@ loop-total-preserved g c =
     let now = c.turn.new in
     let number = c.args.connection.now.number in
     record {
-      some = fits_refilled c.args.group _ _ _ _ _ l.buf.ok.0 inv.some c.fit.ensures;
+      some = fits_refilled c.may_be_long-long.result _ _ _ _ _ l.buf.ok.0 inv.some c.fit.ensures;
       progress = progress_turn start _ (told (g.L.Source.given now.link) (g.L.Source.left now.link) (g.L.Sink.taken now.link)) _ _ (λ calls. g.A.Access.ran c.args.access.now calls now.access)
           (λ xs ys p q. g.met.A.Access.ran_more _ _ _ xs ys p q) _ _ _ _ _ inv.same_number (λ k. g.S.Session.served k l.session) (λ k. g.S.Session.served k now.session) c.in-Ok.len inv.progress went.goes;
       idle = went.idle;

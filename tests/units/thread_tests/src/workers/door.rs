@@ -1,5 +1,6 @@
 //! The door of a worker.
-use edge_io::{AcceptFault, Door, MemDoor, MemLink, Proto, Shortage};
+use edge_io::{AcceptFault, Door, MemDoor, MemLink, Proto};
+use event_form::Talk;
 use std::alloc::AllocError;
 
 /// A door in memory. A starved one lets a link go, and then reports that it found no memory. To contracts it doesn't tell its links.
@@ -19,8 +20,8 @@ impl Door for TestDoor {
 
     ghost permits = { λ _ _ _ _. Unit {0} };
 
-    fn accept(&mut self) -> Result<Option<MemLink>, AcceptFault> {
-        self.door.accept()
+    fn accept(&mut self, conn: u64) -> Result<Option<MemLink>, AcceptFault> {
+        self.door.accept(conn)
     }
 
     fn give_back(
@@ -29,9 +30,9 @@ impl Door for TestDoor {
         proto: Proto,
         conn: u64,
         status: u8,
-        shortage: Option<Shortage>,
+        talk: Talk,
     ) -> Result<(), AllocError> {
-        self.door.give_back(link, proto, conn, status, shortage)?;
+        self.door.give_back(link, proto, conn, status, talk)?;
         if self.starved {
             return Err(AllocError);
         }

@@ -110,7 +110,7 @@ fn are_served(
 fn waiting(door: &mut MemDoor) -> usize {
     let mut many: usize = 0;
     for _ in 0..10 {
-        if !matches!(door.accept(), Ok(Some(_))) {
+        if !matches!(door.accept(0), Ok(Some(_))) {
             break;
         }
         many = many.saturating_add(1);

@@ -1,9 +1,7 @@
-use Rattle.std.proofs.Common.{rules, ◌≡◌, ◌∙◌, ◌^◌, ◌<◌, nat_le, inl, inr, List, refl, sym, ap, subst}
-use Rattle.std.specs.List.{prefix_len}
-use Rattle.spool_slots.specs.declared.slot.Slot.{Slot}
+use Rattle.std.proofs.Common.{rules, ◌≡◌, ◌+◌, ◌∙◌, ◌++◌, ◌∷◌, [], ◌^◌, ◌<◌, ℕ, inl, inr, List, refl, ap, subst, arith}
 use Rattle.bridge_rescue.specs.declared.fault.SlotFault.{SlotFault}
-use Rattle.bridge_rescue.specs.Faults.{HasUnread}
-use Rattle.bridge_rescue.proofs.Judging.{knows_closed, knows_wrong, knows_sound, unread_then, unread_first, unread_last}
+use Rattle.bridge_rescue.specs.Looking.{whole, front}
+use Rattle.bridge_rescue.proofs.Judging.{knows_closed, knows_wrong, knows_sound, knows_front, readable_more, same_unread, more_unread}
 use Rattle.bridge_rescue.proofs.looking.Looked.add.Goals as goal
 
 -- a closed slot
@@ -16,28 +14,45 @@ returns-in-Closed-clause-known c = λ size place bytes known seen. knows_closed 
 
 -- a sound one
 
-pub returns-in-Ok-clause-known : goal.returns-in-Ok-clause-known
-returns-in-Ok-clause-known c = λ size place bytes known seen.
+pub overflow_add-self : goal.overflow_add-self
+overflow_add-self c = let room = c.requires.room in omega (arith, c.find.ensures.sound, room.2.few_sound, room.3, room.4)
+
+pub returns-in-Sound-clause-unread : goal.returns-in-Sound-clause-unread
+returns-in-Sound-clause-unread c = rw c.in-Sound.is (same_unread _ _ ⊥ (ap (λ v. v.items) c.find.ensures.faults) (λ never. never))
+
+pub returns-in-Sound-clause-readable : goal.returns-in-Sound-clause-readable
+returns-in-Sound-clause-readable c = λ len all seen. readable_more len _ _ _ (whole c.in-Sound.slot) c.find.ensures.found all (rw c.in-Sound.is at seen)
+
+pub returns-in-Sound-clause-known : goal.returns-in-Sound-clause-known
+returns-in-Sound-clause-known c = λ size place bytes known seen.
     let slot = c.in-Sound.slot in
-    let inserted = rw c.in-Ok.is at c.insert.ensures.items in
-    let index : c.count_upto-index.result ≡ prefix_len (λ other. nat_le other.first slot.first) c.args.self.now.sound.items =
-    c.count_upto-index.ensures.count ∙ ap (λ (l : List Slot). prefix_len (λ other. nat_le other.first slot.first) l) c.deref.ensures.value in
     let fits : (slot.ordinal < 2 ^ 64) × (slot.first < 2 ^ 64) = search rules in
-    knows_sound place size bytes c.args.self.now _ known slot c.count_upto-index.result index inserted refl fits.0 fits.1 (rw c.in-Sound.is at seen)
+    knows_sound place size bytes c.args.self.now _ known slot c.find.ensures.found (ap (λ v. v.items) c.find.ensures.faults) (ap (λ (n : ℕ). n + 1) c.find.ensures.sound) fits.0 fits.1
+    (rw c.in-Sound.is at seen)
+
+-- one of which something stands before its fault
+
+pub returns-in-Front-clause-unread : goal.returns-in-Front-clause-unread
+returns-in-Front-clause-unread c =
+    let pushed = subst (λ (l : List SlotFault). c.blame.new.self.faults.items ≡ l ++ c.in-Front.fault ∷ []) (ap (λ v. v.items) c.find-in-Front.ensures.faults) c.blame.ensures.faults in
+    rw c.in-Front.is (more_unread _ _ c.in-Front.fault pushed)
+
+pub returns-in-Front-clause-readable : goal.returns-in-Front-clause-readable
+returns-in-Front-clause-readable c = λ len all seen.
+    readable_more len _ _ _ (front c.in-Front.slot) (ap (λ v. v.items) c.blame.ensures.found ∙ c.find-in-Front.ensures.found) all (rw c.in-Front.is at seen)
+
+pub returns-in-Front-clause-known : goal.returns-in-Front-clause-known
+returns-in-Front-clause-known c = λ size place bytes known seen.
+    let pushed = subst (λ (l : List SlotFault). c.blame.new.self.faults.items ≡ l ++ c.in-Front.fault ∷ []) (ap (λ v. v.items) c.find-in-Front.ensures.faults) c.blame.ensures.faults in
+    knows_front place size bytes c.args.self.now _ known c.in-Front.slot c.in-Front.fault (ap (λ v. v.items) c.blame.ensures.found ∙ c.find-in-Front.ensures.found) pushed
+    (c.blame.ensures.sound ∙ c.find-in-Front.ensures.sound) (rw c.in-Front.is at seen)
 
 -- one at fault
 
-pub returns-in-Ok-push-clause-unread : goal.returns-in-Ok-push-clause-unread
-returns-in-Ok-push-clause-unread c =
-    let pushed = rw c.in-Ok-push.is at c.push.ensures.items in
-    let faults = c.args.self.now.faults.items in
-    let fault = c.in-AtFault.fault in
-    rw c.in-AtFault.is (
-      (λ has. elim (unread_then faults fault (subst HasUnread pushed has)) [ inl before ↦ inl before | inr last ↦ elim last [ inl here ↦ inr here | inr never ↦ absurd never ] ]),
-      (λ either. subst HasUnread (sym {A = List SlotFault} pushed) (elim either [ inl before ↦ unread_first faults fault before | inr here ↦ unread_last faults fault (inl here) ])),
-    )
+pub returns-in-AtFault-clause-unread : goal.returns-in-AtFault-clause-unread
+returns-in-AtFault-clause-unread c = rw c.in-AtFault.is (more_unread _ _ c.in-AtFault.fault c.blame-in-AtFault.ensures.faults)
 
-pub returns-in-Ok-push-clause-known : goal.returns-in-Ok-push-clause-known
-returns-in-Ok-push-clause-known c = λ size place bytes known seen.
-    let pushed = rw c.in-Ok-push.is at c.push.ensures.items in
-    knows_wrong place size bytes c.args.self.now _ known c.in-AtFault.fault refl pushed (rw c.in-AtFault.is at seen)
+pub returns-in-AtFault-clause-known : goal.returns-in-AtFault-clause-known
+returns-in-AtFault-clause-known c = λ size place bytes known seen.
+    let blame = c.blame-in-AtFault.ensures in
+    knows_wrong place size bytes c.args.self.now _ known c.in-AtFault.fault (ap (λ v. v.items) blame.found) blame.faults blame.sound (rw c.in-AtFault.is at seen)

@@ -1,10 +1,6 @@
 use Rattle.std.proofs.Common.{◌≡◌, Global, map, string_bytes}
-use Rattle.cli_parts.proofs.Options.{first_and_rest, next_quiet, next_idle, next_idle_with, next_memory, next_memory_with, next_other, wrong_idle, wrong_idle_with, wrong_memory, wrong_memory_with}
+use Rattle.cli_parts.proofs.Options.{first_and_rest, next_flag, next_idle, next_idle_with, next_memory, next_memory_with, next_other, wrong_flag, wrong_idle, wrong_idle_with, wrong_memory, wrong_memory_with}
 use Rattle.cli_parts.proofs.run_options.Taken.read.Goals as goal
-
--- `--quiet`
-pub returns-else-self-clause-read : goal.returns-else-self-clause-read
-returns-else-self-clause-read c = next_quiet _ _ _ _ _ c.in-Quiet.ensures c.if-self.false
 
 -- `--idle=SECONDS`
 
@@ -57,6 +53,18 @@ returns-in-Err-take_memory-2-clause-wrong c = λ wrong is.
     let whole = first_and_rest (string_bytes {Z = Global}) c.args.more.now c.value-item-in-Memory.result c.as_str-in-Memory.result.now c.in-len1-up-more.len_at_least c.value-item-in-Memory.is c.as_str-in-Memory.ensures.value in
     rw (← same) (wrong_memory c.args.name.now c.args.word.now c.as_str-in-Memory.result.now (map (string_bytes {Z = Global}) c.args.more.now) _
     c.args.self.now.options c.in-Err-take_memory-2.wrong whole c.in-Memory.ensures c.in-Err-take_memory-2.ensures.wrong)
+
+-- an option without a value
+
+pub returns-in-Ok-take_flag-clause-read : goal.returns-in-Ok-take_flag-clause-read
+returns-in-Ok-take_flag-clause-read c =
+    rw c.in-Ok-take_flag.ensures.words (next_flag c.in-Flag.flag _ _ _ _ _ _ c.in-Flag.ensures c.in-Ok-take_flag.ensures.once c.in-Ok-take_flag.ensures.given)
+
+pub returns-in-Err-take_flag-clause-wrong : goal.returns-in-Err-take_flag-clause-wrong
+returns-in-Err-take_flag-clause-wrong c = λ wrong is.
+    let same : c.in-Err-take_flag.wrong ≡ wrong = cc in
+    rw (← same) (wrong_flag c.in-Flag.flag c.args.name.now c.args.word.now (map (string_bytes {Z = Global}) c.args.more.now)
+    c.args.self.now.options c.in-Err-take_flag.wrong c.in-Flag.ensures c.in-Err-take_flag.ensures.wrong)
 
 -- any other word
 pub returns-in_ok-keep-in-Other-clause-read : goal.returns-in_ok-keep-in-Other-clause-read

@@ -1,17 +1,18 @@
 use Rattle.std.proofs.Common.{rules, ◌≡◌, ◌∙◌, Some, length, refl, ap, subst, arith, sym}
-use Rattle.std.specs.Prelude.{Option}
+use Rattle.std.specs.Prelude.{◌<◌, Option, None, IfNone, IfSome}
 use Rattle.desk_access.specs.Carried.{Carried}
 use Rattle.hec_session.specs.declared.tokens.Tokens.{Tokens}
 use Rattle.conn_serve.specs.declared.hec.asked.Asked.{Asked}
 use Rattle.conn_serve.specs.Done.{Anyway}
 use Rattle.conn_serve.specs.Handled.{Handled, Served}
 use Rattle.conn_serve.specs.Hec.{hec}
-use Rattle.conn_serve.specs.HecServing.{GivesAsked, ReadsBy}
+use Rattle.conn_serve.specs.declared.hec.intake.Intake.{Intake}
+use Rattle.conn_serve.specs.HecReading.{GivesKept, IsLeft, IsSound, ReadsKept, WasRead, waits_of}
 use Rattle.conn_serve.specs.Says.{CouldEnd}
 use Rattle.conn_serve.specs.Terms.{terms_with}
 use Rattle.conn_serve.proofs.Saying.{says_then}
 use Rattle.conn_serve.proofs.Leading.{done_start, done_then, done_ends, so_far_then}
-use Rattle.conn_serve.proofs.HecSessions.{due_carried, ends_starved, served_item, served_halt, served_same, so_far_few}
+use Rattle.conn_serve.proofs.HecSessions.{due_carried, kept_few, kept_read, kept_sound, kept_starved, served_item, served_halt, served_left, served_same}
 use Rattle.conn_serve.proofs.Faults.{counts_fine, counts_other, counts_passed, err_of, memory_is_whole, quiet_fine}
 use Rattle.desk_access.specs.Endings.{IsAtMove}
 use Rattle.conn_serve.proofs.hec.session.HecSessionSession.serve.Goals as goal
@@ -34,7 +35,7 @@ pub serve_item-requires-clause-early : goal.serve_item-requires-clause-early
 serve_item-requires-clause-early g c =
     let l = c.loop-asked in
     let was = c.args.self.now in
-    so_far_few was.core c.args.connection.now.number l.self.window was.met l.connection.taken 0 l.invariant.so_far
+    kept_few was.core c.args.connection.now.number l.self.intake was.met l.connection.taken 0 l.invariant.so_far
 
 pub serve_item-requires-clause-says : goal.serve_item-requires-clause-says
 serve_item-requires-clause-says g c =
@@ -42,11 +43,11 @@ serve_item-requires-clause-says g c =
     let inv = l.invariant in
     let was = c.args.self.now in
     let number = c.args.connection.now.number in
-    let after = c.next_asked.new.window in
-    let given = subst (λ (core : Tokens). GivesAsked core l.self.window (Some c.in-Some.asked) after) inv.same_core (subst (λ (next : Option Asked). GivesAsked l.self.core l.self.window next after) c.in-Some.is c.in_ok-asked.ensures.gives) in
+    let after = c.next_asked.new.self in
+    let given = subst (λ (core : Tokens). GivesKept core l.self.intake (Some c.in-Some.asked) after) inv.same_core (subst (λ (next : Option Asked). GivesKept l.self.core l.self.intake next after) c.in-Some.is c.in_ok-asked.ensures.gives) in
     let says = says_then g.A.Access.ran c.args.access.now l.access g.met.A.Access.ran_more _ _ _ _ (g.met.L.Sink.permits_last _ _ inv.apart) (CouldEnd (Carried (hec was.core number))) _ _ _
-    (Served (Handled (hec was.core number)) (ReadsBy l.self.window was.met)) inv.done c.requires.says in
-    λ now calls text made due. says now calls text made (due_carried was.core number l.connection.taken l.self.window after was.met given.0 c.in-Some.asked given.1 given.2 l.connection.number inv.same_number calls text due)
+    (Served (Handled (hec was.core number)) (ReadsKept was.core l.self.intake was.met)) inv.done c.requires.says in
+    λ now calls text made due. says now calls text made (due_carried was.core number l.connection.taken l.self.intake after was.met c.in-Some.asked given l.connection.number inv.same_number calls text due)
 
 pub loop-asked-preserved : goal.loop-asked-preserved
 loop-asked-preserved g c =
@@ -55,17 +56,17 @@ loop-asked-preserved g c =
     let was = c.args.self.now in
     let call = c.in_ok-serve_item.ensures in
     let number = c.args.connection.now.number in
-    let after = c.next_asked.new.window in
-    let given = subst (λ (core : Tokens). GivesAsked core l.self.window (Some c.in-Some.asked) after) inv.same_core (subst (λ (next : Option Asked). GivesAsked l.self.core l.self.window next after) c.in-Some.is c.in_ok-asked.ensures.gives) in
-    let item = served_item was.core number _ _ _ _ _ l.self.window after was.met given.0 c.in-Some.asked given.1 given.2 l.connection.number inv.same_number call.goes in
+    let after = c.next_asked.new.self in
+    let given = subst (λ (core : Tokens). GivesKept core l.self.intake (Some c.in-Some.asked) after) inv.same_core (subst (λ (next : Option Asked). GivesKept l.self.core l.self.intake next after) c.in-Some.is c.in_ok-asked.ensures.gives) in
+    let item = served_item was.core number _ _ _ _ _ l.self.intake after was.met c.in-Some.asked given l.connection.number inv.same_number call.goes in
     record {
-      done = done_then _ _ _ _ _ _ _ _ _ _ _ (Served (Handled (hec was.core number)) (ReadsBy after was.met)) (λ xs ys p q. g.met.A.Access.ran_more _ _ _ xs ys p q) inv.done item;
+      done = done_then _ _ _ _ _ _ _ _ _ _ _ (Served (Handled (hec was.core number)) (ReadsKept was.core after was.met)) (λ xs ys p q. g.met.A.Access.ran_more _ _ _ xs ys p q) inv.done item;
       so_far = so_far_then _ _ _ _ _ _ _ _ inv.so_far item;
       same_core = inv.same_core;
       same_met = inv.same_met;
       same_number = call.number ∙ inv.same_number;
       may = rw (← inv.same_number) call.may;
-      extent = omega (arith, inv.extent, given.1.at_is, given.1.come_is);
+      extent = omega (arith, inv.extent, c.in_ok-asked.ensures.extent);
       writes = quiet_fine _ _ _ _ _ call.writes ∙ inv.writes;
       same = g.L.Object.same_trans _ _ _ inv.same call.same;
       apart = g.met.L.Sink.apart_trans _ _ _ inv.apart call.apart;
@@ -73,24 +74,32 @@ loop-asked-preserved g c =
 
 pub loop-asked-smaller : goal.loop-asked-smaller
 loop-asked-smaller g c =
-    let given = subst (λ (next : Option Asked). GivesAsked c.loop-asked.self.core c.loop-asked.self.window next c.next_asked.new.window) c.in-Some.is c.in_ok-asked.ensures.gives in
-    omega (arith, ap length given.1.first)
+    let less = subst (λ (next : Option Asked). IfSome next (λ _. waits_of c.next_asked.new.self < waits_of c.loop-asked.self.intake)) c.in-Some.is c.in_ok-asked.ensures.less in
+    less
 
 pub returns-clause-goes : goal.returns-clause-goes
 returns-clause-goes g c =
     let l = c.loop-asked in
     let was = c.args.self.now in
     let number = c.args.connection.now.number in
-    let stays : c.next_asked.new.window ≡ l.self.window = search rules in
-    served_same _ _ _ _ _ (Served (Handled (hec was.core number)) (ReadsBy was.window was.met)) number was.core l.self.core l.self.window c.next_asked.new.window was.met l.self.met l.invariant.same_core stays l.invariant.same_met l.invariant.done
+    let after = c.next_asked.new.self in
+    let from = Served (Handled (hec was.core number)) (ReadsKept was.core was.intake was.met) in
+    let gives = subst (λ (core : Tokens). GivesKept core l.self.intake None after) l.invariant.same_core (subst (λ (next : Option Asked). GivesKept l.self.core l.self.intake next after) c.in_default.is c.in_ok-asked.ensures.gives) in
+    served_same _ _ _ _ _ from number was.core l.self.core after was.met l.self.met l.invariant.same_core l.invariant.same_met (served_left was.core number _ _ _ _ _ from l.self.intake after was.met gives l.invariant.done)
+
+pub returns-clause-idle : goal.returns-clause-idle
+returns-clause-idle g c =
+    let l = c.loop-asked in
+    let left = subst (λ (next : Option Asked). IfNone next (IsLeft c.next_asked.new.self)) c.in_default.is c.in_ok-asked.ensures.left in
+    record { none = left.none; space = left.space; going = left.going; found = λ e. let starved = c.is_starved.ensures.1 (sym l.invariant.same_met ∙ e) in let fed = c.if-is_starved.false in cc }
 
 pub returns-then-is_starved : goal.returns-then-is_starved
 returns-then-is_starved g c =
     let now = c.args.self.now in
     let number = c.args.connection.now.number in
-    let served = Served (Handled (hec now.core number)) (ReadsBy now.window now.met) in
+    let served = Served (Handled (hec now.core number)) (ReadsKept now.core now.intake now.met) in
     record {
-      halts = done_ends _ _ _ served (Anyway (Carried (hec now.core number)) _) (g.met.A.Access.ran_none _) (λ fed called said s left more. ends_starved now.core number now.window now.met left fed called said s more);
+      halts = done_ends _ _ _ served (Anyway (Carried (hec now.core number)) _) (g.met.A.Access.ran_none _) (λ fed called said s left more. kept_starved now.core number now.intake now.met left fed called said s more);
       idle = tt;
       extent = tt;
       terms = tt;
@@ -109,13 +118,13 @@ returns-in_err-asked g c =
     let was = c.args.self.now in
     let number = c.args.connection.now.number in
     let talk = c.in_err-asked.field-0.0 in
-    let served = Served (Handled (hec was.core number)) (ReadsBy l.self.window was.met) in
+    let served = Served (Handled (hec was.core number)) (ReadsKept was.core l.self.intake was.met) in
     rw (err_of c.from_residual.result talk c.from_residual.ensures.1)
     (record {
       goes = tt;
       halts = (done_then _ _ _ _ _ _ _ _ _ _ served (Anyway (Carried (hec was.core number)) talk) (λ xs ys p q. g.met.A.Access.ran_more _ _ _ xs ys p q) l.invariant.done (done_ends _ _ _ served
           (Anyway (Carried (hec was.core number)) talk) (g.met.A.Access.ran_none _) (λ fed called said s left more. rw c.in_err-asked.ensures.starved
-          (ends_starved was.core number l.self.window was.met left fed called said s more))));
+          (kept_starved was.core number l.self.intake was.met left fed called said s more))));
       only = subst IsAtMove (sym c.in_err-asked.ensures.starved) tt;
       idle = tt;
       extent = tt;
@@ -135,13 +144,13 @@ returns-in_err-serve_item g c =
     let call = c.in_err-serve_item.ensures in
     let number = c.args.connection.now.number in
     let talk = c.in_err-serve_item.field-0.0 in
-    let after = c.next_asked.new.window in
-    let given = subst (λ (core : Tokens). GivesAsked core l.self.window (Some c.in-Some.asked) after) inv.same_core (subst (λ (next : Option Asked). GivesAsked l.self.core l.self.window next after) c.in-Some.is c.in_ok-asked.ensures.gives) in
+    let after = c.next_asked.new.self in
+    let given = subst (λ (core : Tokens). GivesKept core l.self.intake (Some c.in-Some.asked) after) inv.same_core (subst (λ (next : Option Asked). GivesKept l.self.core l.self.intake next after) c.in-Some.is c.in_ok-asked.ensures.gives) in
     rw (err_of c.from_residual-in_err-serve_item.result talk c.from_residual-in_err-serve_item.ensures.1)
     (record {
       goes = tt;
       halts = (done_then _ _ _ _ _ _ _ _ _ _ _ (Anyway (Carried (hec was.core number)) talk) (λ xs ys p q. g.met.A.Access.ran_more _ _ _ xs ys p q) inv.done
-          (served_halt was.core number _ _ _ _ _ l.self.window after was.met given.0 c.in-Some.asked given.1 given.2 l.connection.number inv.same_number talk call.only call.halts));
+          (served_halt was.core number _ _ _ _ _ l.self.intake after was.met c.in-Some.asked given l.connection.number inv.same_number talk call.only call.halts));
       only = call.only;
       idle = tt;
       extent = tt;
@@ -173,3 +182,13 @@ returns-clause-same g c = c.loop-asked.invariant.same
 
 pub returns-clause-apart : goal.returns-clause-apart
 returns-clause-apart g c = c.loop-asked.invariant.apart
+
+pub next_asked-requires-clause-sound : goal.next_asked-requires-clause-sound
+next_asked-requires-clause-sound g c =
+    let l = c.loop-asked in
+    subst (λ (core : Tokens). IsSound core l.self.intake.window l.self.intake.refused) (sym l.invariant.same_core) (kept_sound c.args.self.now.core c.args.connection.now.number l.self.intake c.args.self.now.met l.connection.taken 0 l.invariant.so_far)
+
+pub next_asked-requires-clause-read : goal.next_asked-requires-clause-read
+next_asked-requires-clause-read g c =
+    let l = c.loop-asked in
+    kept_read c.args.self.now.core c.args.connection.now.number l.self.intake c.args.self.now.met l.connection.taken 0 l.invariant.so_far

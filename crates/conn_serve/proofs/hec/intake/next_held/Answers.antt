@@ -4,7 +4,7 @@ use Rattle.http_edge.specs.declared.request.HttpItem.TheVariants.{Request}
 use Rattle.http_edge.specs.Lending.{GivesItem, item_of}
 use Rattle.http_edge.specs.Loan.{Gives}
 use Rattle.http_edge.specs.Waits.{with_body}
-use Rattle.conn_serve.proofs.hec.session.next_asked.Goals as goal
+use Rattle.conn_serve.proofs.hec.intake.next_held.Goals as goal
 
 pub returns-in-Ok-clause-gives : goal.returns-in-Ok-clause-gives
 returns-in-Ok-clause-gives c =
