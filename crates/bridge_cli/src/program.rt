@@ -99,7 +99,8 @@ fn run_arguments<R: Threads + Wait + Sync>(
     options: RunOptions,
     errors: &StandardError,
 ) -> Ending {
-    if let Err(ending) = confirm(rt, arguments) {
+    let host = Host { rt, errors };
+    if let Err(ending) = confirm(host, arguments) {
         return ending;
     }
     let mut input = FileIo::of(rt.reader());
@@ -107,16 +108,14 @@ fn run_arguments<R: Threads + Wait + Sync>(
     let mut output = FileIo::of(Shown::over(rt.alloc(), io::writer(rt), is_terminal));
     let files = SystemFiles::new(rt);
     if let Some(number) = skip_of(&arguments.words) {
-        return run_skip(rt, &files, &arguments.file, number, &mut output);
+        return run_skip(host, &files, &arguments.file, number, &mut output);
     }
     if let Some(rescue) = rescue_of(&arguments.words) {
-        return run_rescue(rt, &files, &arguments.file, rescue.layout, &mut output);
+        return run_rescue(host, &files, &arguments.file, rescue.layout, &mut output);
     }
     let reports = reports_of(options);
-    let host = Host { rt, errors };
     let told = Told {
         file: reports.file(),
-        errors,
     };
     let net = TcpNet::with_waits(rt.alloc(), &host, &reports, waits_of(options));
     let mut net = net.telling(Manager::named(rt));
@@ -124,7 +123,7 @@ fn run_arguments<R: Threads + Wait + Sync>(
         return ending;
     }
     run_words(
-        rt,
+        host,
         threads,
         &files,
         &arguments.file,
@@ -160,10 +159,10 @@ fn run_taken<R: Threads + Wait + Sync + Copy + Send + 'static>(
     }
     let ending = run_arguments(rt, threads, arguments, options, &errors);
     print_ending(&(&*errors, alloc), arguments, ending);
-    errors.finish(rt);
     if ending == Ending::Noted(Note::Usage) {
-        print_beside_usage(rt, arguments);
+        print_beside_usage(&(&*errors, alloc), arguments);
     }
+    errors.finish(rt);
     ending
 }
 
