@@ -144,12 +144,15 @@ fn run_taken<R: Threads + Wait + Sync + Copy + Send + 'static>(
 ) -> Ending {
     let alloc = rt.alloc();
     let Ok(errors) = Arc::new(alloc, StandardError::new(rt, options.has_time)) else {
-        print_note(rt, Note::NoMemory);
+        print_note(
+            &(StandardError::new(rt, options.has_time), alloc),
+            Note::NoMemory,
+        );
         return Ending::Noted(Note::NoMemory);
     };
     if asks_for(arguments, "serve") {
         if StandardError::start(threads, &errors).is_err() {
-            print_note(rt, Note::NoMemory);
+            print_note(&(&*errors, alloc), Note::NoMemory);
             return Ending::Noted(Note::NoMemory);
         }
         if !options.is_quiet {
@@ -168,17 +171,17 @@ fn run_taken<R: Threads + Wait + Sync + Copy + Send + 'static>(
 
 // The words with what they stand for in the places of SIZE with a unit, and of the files that hold tokens. The error is the note with which
 // the run ends; standard error has said it.
-fn with_values(rt: &HostRuntime, words: Vec<String>) -> Result<Vec<String>, Note> {
-    match with_bytes(rt.alloc(), words) {
-        Ok(words) => with_tokens(rt, words),
+fn with_values(host: Host<'_>, words: Vec<String>) -> Result<Vec<String>, Note> {
+    match with_bytes(host.rt.alloc(), words) {
+        Ok(words) => with_tokens(host, words),
         Err(_) => {
-            print_note(rt, Note::NoMemory);
+            print_note(&(host, host.rt.alloc()), Note::NoMemory);
             Err(Note::NoMemory)
         }
     }
 }
 
-// The same where the options of the run stand among the words, which are taken out of them.
+// The same where the options of the run stand among the words, which are taken out of them. Where one of them is wrong, lines have no time.
 fn run_all<R: Threads + Wait + Sync + Copy + Send + 'static>(
     rt: &HostRuntime,
     threads: &R,
@@ -188,7 +191,12 @@ fn run_all<R: Threads + Wait + Sync + Copy + Send + 'static>(
     let Arguments { file, words } = arguments;
     match taken {
         Ok(Taken { words, options }) => {
-            let words = match with_values(rt, words) {
+            let errors = StandardError::new(rt, options.has_time);
+            let host = Host {
+                rt,
+                errors: &errors,
+            };
+            let words = match with_values(host, words) {
                 Ok(words) => words,
                 Err(note) => return Ending::Noted(note),
             };
@@ -196,12 +204,13 @@ fn run_all<R: Threads + Wait + Sync + Copy + Send + 'static>(
             run_taken(rt, threads, &arguments, options)
         }
         Err(Untaken::Wrong(wrong)) => {
-            print_note(rt, Note::Usage);
-            print_beside_wrong_option(rt, &Arguments { file, words }, wrong);
+            let said = (StandardError::new(rt, false), rt.alloc());
+            print_note(&said, Note::Usage);
+            print_beside_wrong_option(&said, &Arguments { file, words }, wrong);
             Ending::Noted(Note::Usage)
         }
         Err(Untaken::NoMemory) => {
-            print_note(rt, Note::NoMemory);
+            print_note(&(StandardError::new(rt, false), rt.alloc()), Note::NoMemory);
             Ending::Noted(Note::NoMemory)
         }
     }
@@ -217,18 +226,19 @@ pub fn run<R: Threads + Wait + Sync + Copy + Send + 'static>(
 ) -> Ending {
     let _held = hold_streams(rt);
     keep_freed(rt.alloc());
+    let said = (StandardError::new(rt, false), rt.alloc());
     match Arguments::read(rt) {
-        Ok(arguments) => match answer(rt, &arguments) {
+        Ok(arguments) => match answer(rt, &said, &arguments) {
             Some(ending) => ending,
             None => run_all(rt, threads, arguments),
         },
         Err(NoArguments::NoText) => {
-            print_note(rt, Note::Usage);
-            print_error(rt, &NoArguments::NoText);
+            print_note(&said, Note::Usage);
+            print_error(&said, &NoArguments::NoText);
             Ending::Noted(Note::Usage)
         }
         Err(NoArguments::NoMemory) => {
-            print_note(rt, Note::NoMemory);
+            print_note(&said, Note::NoMemory);
             Ending::Noted(Note::NoMemory)
         }
     }
