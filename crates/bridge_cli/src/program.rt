@@ -99,7 +99,8 @@ fn run_arguments<R: Threads + Wait + Sync>(
     options: RunOptions,
     errors: &StandardError,
 ) -> Ending {
-    if let Err(ending) = confirm(rt, arguments) {
+    let host = Host { rt, errors };
+    if let Err(ending) = confirm(host, arguments) {
         return ending;
     }
     let mut input = FileIo::of(rt.reader());
@@ -107,16 +108,14 @@ fn run_arguments<R: Threads + Wait + Sync>(
     let mut output = FileIo::of(Shown::over(rt.alloc(), io::writer(rt), is_terminal));
     let files = SystemFiles::new(rt);
     if let Some(number) = skip_of(&arguments.words) {
-        return run_skip(rt, &files, &arguments.file, number, &mut output);
+        return run_skip(host, &files, &arguments.file, number, &mut output);
     }
     if let Some(rescue) = rescue_of(&arguments.words) {
-        return run_rescue(rt, &files, &arguments.file, rescue.layout, &mut output);
+        return run_rescue(host, &files, &arguments.file, rescue.layout, &mut output);
     }
     let reports = reports_of(options);
-    let host = Host { rt, errors };
     let told = Told {
         file: reports.file(),
-        errors,
     };
     let net = TcpNet::with_waits(rt.alloc(), &host, &reports, waits_of(options));
     let mut net = net.telling(Manager::named(rt));
@@ -124,7 +123,7 @@ fn run_arguments<R: Threads + Wait + Sync>(
         return ending;
     }
     run_words(
-        rt,
+        host,
         threads,
         &files,
         &arguments.file,
@@ -145,12 +144,15 @@ fn run_taken<R: Threads + Wait + Sync + Copy + Send + 'static>(
 ) -> Ending {
     let alloc = rt.alloc();
     let Ok(errors) = Arc::new(alloc, StandardError::new(rt, options.has_time)) else {
-        print_note(rt, Note::NoMemory);
+        print_note(
+            &(StandardError::new(rt, options.has_time), alloc),
+            Note::NoMemory,
+        );
         return Ending::Noted(Note::NoMemory);
     };
     if asks_for(arguments, "serve") {
         if StandardError::start(threads, &errors).is_err() {
-            print_note(rt, Note::NoMemory);
+            print_note(&(&*errors, alloc), Note::NoMemory);
             return Ending::Noted(Note::NoMemory);
         }
         if !options.is_quiet {
@@ -160,26 +162,26 @@ fn run_taken<R: Threads + Wait + Sync + Copy + Send + 'static>(
     }
     let ending = run_arguments(rt, threads, arguments, options, &errors);
     print_ending(&(&*errors, alloc), arguments, ending);
-    errors.finish(rt);
     if ending == Ending::Noted(Note::Usage) {
-        print_beside_usage(rt, arguments);
+        print_beside_usage(&(&*errors, alloc), arguments);
     }
+    errors.finish(rt);
     ending
 }
 
 // The words with what they stand for in the places of SIZE with a unit, and of the files that hold tokens. The error is the note with which
 // the run ends; standard error has said it.
-fn with_values(rt: &HostRuntime, words: Vec<String>) -> Result<Vec<String>, Note> {
-    match with_bytes(rt.alloc(), words) {
-        Ok(words) => with_tokens(rt, words),
+fn with_values(host: Host<'_>, words: Vec<String>) -> Result<Vec<String>, Note> {
+    match with_bytes(host.rt.alloc(), words) {
+        Ok(words) => with_tokens(host, words),
         Err(_) => {
-            print_note(rt, Note::NoMemory);
+            print_note(&(host, host.rt.alloc()), Note::NoMemory);
             Err(Note::NoMemory)
         }
     }
 }
 
-// The same where the options of the run stand among the words, which are taken out of them.
+// The same where the options of the run stand among the words, which are taken out of them. Where one of them is wrong, lines have no time.
 fn run_all<R: Threads + Wait + Sync + Copy + Send + 'static>(
     rt: &HostRuntime,
     threads: &R,
@@ -189,7 +191,12 @@ fn run_all<R: Threads + Wait + Sync + Copy + Send + 'static>(
     let Arguments { file, words } = arguments;
     match taken {
         Ok(Taken { words, options }) => {
-            let words = match with_values(rt, words) {
+            let errors = StandardError::new(rt, options.has_time);
+            let host = Host {
+                rt,
+                errors: &errors,
+            };
+            let words = match with_values(host, words) {
                 Ok(words) => words,
                 Err(note) => return Ending::Noted(note),
             };
@@ -197,12 +204,13 @@ fn run_all<R: Threads + Wait + Sync + Copy + Send + 'static>(
             run_taken(rt, threads, &arguments, options)
         }
         Err(Untaken::Wrong(wrong)) => {
-            print_note(rt, Note::Usage);
-            print_beside_wrong_option(rt, &Arguments { file, words }, wrong);
+            let said = (StandardError::new(rt, false), rt.alloc());
+            print_note(&said, Note::Usage);
+            print_beside_wrong_option(&said, &Arguments { file, words }, wrong);
             Ending::Noted(Note::Usage)
         }
         Err(Untaken::NoMemory) => {
-            print_note(rt, Note::NoMemory);
+            print_note(&(StandardError::new(rt, false), rt.alloc()), Note::NoMemory);
             Ending::Noted(Note::NoMemory)
         }
     }
@@ -218,18 +226,19 @@ pub fn run<R: Threads + Wait + Sync + Copy + Send + 'static>(
 ) -> Ending {
     let _held = hold_streams(rt);
     keep_freed(rt.alloc());
+    let said = (StandardError::new(rt, false), rt.alloc());
     match Arguments::read(rt) {
-        Ok(arguments) => match answer(rt, &arguments) {
+        Ok(arguments) => match answer(rt, &said, &arguments) {
             Some(ending) => ending,
             None => run_all(rt, threads, arguments),
         },
         Err(NoArguments::NoText) => {
-            print_note(rt, Note::Usage);
-            print_error(rt, &NoArguments::NoText);
+            print_note(&said, Note::Usage);
+            print_error(&said, &NoArguments::NoText);
             Ending::Noted(Note::Usage)
         }
         Err(NoArguments::NoMemory) => {
-            print_note(rt, Note::NoMemory);
+            print_note(&said, Note::NoMemory);
             Ending::Noted(Note::NoMemory)
         }
     }
