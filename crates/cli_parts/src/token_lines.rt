@@ -1,4 +1,7 @@
 //! The lines of a file of tokens, as `--tokens` has them.
+ghost use Rattle.std.specs.Prelude.{IfOk};
+ghost use Rattle.cli_parts.specs.TokenPlaces.{AddsOf};
+
 use bridge_words::is_token;
 use edge_net::TokenPlace;
 use std::alloc::{AllocError, Global};
@@ -35,7 +38,9 @@ fn guid_in(line: &str) -> Option<u128> {
 
 impl TokenLines {
     // Reads one more line, of this number. One that is blank or begins with `#` has nothing.
-    fn add(&mut self, alloc: Global, number: usize, line: &str) -> Result<(), AllocError> {
+    fn add(&mut self, alloc: Global, number: usize, line: &str) -> Result<(), AllocError>
+        ensures place { IfOk result (λ _. AddsOf number self.old.places.items self.new.places.items) }
+    {
         let line = spaced(alloc, line)?;
         if line.is_empty() || line.as_str().starts_with('#') {
             return Ok(());

@@ -1,5 +1,5 @@
 //! The token of a sender, as the heads of its requests have it.
-ghost use Rattle.std.specs.Prelude.{◌≡◌, ℕ, Some};
+ghost use Rattle.std.specs.Prelude.{◌≡◌, ℕ, IfOk, Some};
 ghost use Rattle.edge_net.specs.Authorized.{token_of};
 ghost use Rattle.edge_net.specs.declared.authorized.Authorized.TheVariants.{Unsure};
 
@@ -91,11 +91,20 @@ fn head_at(piece: &[u8]) -> Result<Head, Unread> {
 }
 
 // The token of requests, of which some had the first one and the last has the second.
-fn joined(token: Option<u128>, other: Option<u128>) -> Result<Option<u128>, Unread> {
+fn joined(token: Option<u128>, other: Option<u128>) -> Result<Option<u128>, Unread>
+    ensures stays { IfOk result (λ both. (known : ℕ) → token ≡ Some known → both ≡ Some known) }
+    ensures counts { IfOk result (λ both. (known : ℕ) → other ≡ Some known → both ≡ Some known) }
+{
     match (token, other) {
-        (Some(token), Some(other)) if token != other => Err(Unread),
         (None, other) => Ok(other),
-        _ => Ok(token),
+        (token, None) => Ok(token),
+        (Some(one), Some(another)) => {
+            if one == another {
+                Ok(token)
+            } else {
+                Err(Unread)
+            }
+        }
     }
 }
 
@@ -117,7 +126,7 @@ impl Authorized {
     /// told any more: that is how senders write which wait for each answer.
     pub(crate) fn after(self, piece: &[u8]) -> Authorized
         ensures unsure { self ≡ Unsure → result ≡ Unsure }
-        ensures one { (token other : ℕ) → token_of self ≡ Some token → token_of result ≡ Some other → token ≡ other }
+        ensures one { (known found : ℕ) → token_of self ≡ Some known → token_of result ≡ Some found → known ≡ found }
     {
         let Authorized::By { token, due } = self else {
             return Authorized::Unsure;
@@ -138,7 +147,9 @@ impl Authorized {
 }
 
 // The same of requests that have this token, or none yet, where so many bytes are still to come of a body.
-fn next(token: Option<u128>, due: u64, piece: &[u8]) -> Result<Authorized, Unread> {
+fn next(token: Option<u128>, due: u64, piece: &[u8]) -> Result<Authorized, Unread>
+    ensures stays { IfOk result (λ next. (known : ℕ) → token ≡ Some known → token_of next ≡ Some known) }
+{
     let len = piece.len() as u64;
     if due > 0 {
         let due = left(due, len)?;
