@@ -6,7 +6,7 @@ use crate::counts::Counts;
 use crate::hindrance::Hindrance;
 use crate::page::{pending_of, room_of};
 use crate::since::millis;
-use crate::token_places::{line_of, standing};
+use crate::token_places::{Standing, line_of};
 use crate::{
     FileCounts, Illness, Line, Matter, Receiver, Recent, Since, Standstill, TokenFile, Topic,
 };
@@ -256,8 +256,8 @@ impl Reports {
             matter: matter.kind(),
         };
         if let Some(line) = self.line_about(rt, topic) {
-            let place = standing(&self.tokens, matter);
-            let _ = eprintln!(rt; "bridge: sender {peer}: {matter}{place}{line}");
+            let standing = Standing::of(&self.tokens, matter);
+            let _ = eprintln!(rt; "bridge: sender {peer}: {matter}{standing}{line}");
         }
     }
 

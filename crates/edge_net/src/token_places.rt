@@ -41,20 +41,22 @@ pub(crate) struct Standing<'a> {
     place: Option<(usize, &'a str)>,
 }
 
-/// Where the token of what befell a sender stands, as far as that is known. How a connection ended says more than that.
-pub(crate) fn standing(tokens: &Option<TokenFile>, matter: Matter) -> Standing<'_> {
-    let place = match (tokens, matter) {
-        (
-            Some(file),
-            Matter::RequestRefused {
-                line: Some(line),
-                end: None,
-                ..
-            },
-        ) => Some((line, file.name.as_str())),
-        _ => None,
-    };
-    Standing { place }
+impl<'a> Standing<'a> {
+    /// Where the token of what befell a sender stands, as far as that is known. How a connection ended says more than that.
+    pub(crate) fn of(tokens: &'a Option<TokenFile>, matter: Matter) -> Standing<'a> {
+        let place = match (tokens, matter) {
+            (
+                Some(file),
+                Matter::RequestRefused {
+                    line: Some(line),
+                    end: None,
+                    ..
+                },
+            ) => Some((line, file.name.as_str())),
+            _ => None,
+        };
+        Standing { place }
+    }
 }
 
 /// Words that follow what befell it.
