@@ -186,34 +186,129 @@ const LAST_REPLIES: [(&str, Talk, u8, &str); 6] = [
 // What a sender writes, piece by piece, the reply by which it is refused, and what is said of the token's line in the file `tokens`: the first
 // token stands in line 3, the second one in lines 5 and 7.
 const TOKEN_LINES: [(&[&str], &str, &str); 16] = [
-    (&["POST / HTTP/1.1\r\nAuthorization: Splunk 11111111-2222-3333-4444-555555555555\r\n\r\n"], "400 No\r\n\r\n{\"code\":14}", "400, code 14: its token has no ack ids; it stands in line 3 of tokens"),
+    (
+        &["POST / HTTP/1.1\r\nAuthorization: Splunk 11111111-2222-3333-4444-555555555555\r\n\r\n"],
+        "400 No\r\n\r\n{\"code\":14}",
+        "400, code 14: its token has no ack ids; it stands in line 3 of tokens",
+    ),
     // the first of two lines, and another spelling
-    (&["POST / HTTP/1.1\r\nAuthorization: sPLUNK AAAAAAAA222233334444555555555555\r\nHost: x\r\n\r\n"], "400 No\r\n\r\n{\"code\":14}", "400, code 14: its token has no ack ids; it stands in line 5 of tokens"),
+    (
+        &[
+            "POST / HTTP/1.1\r\nAuthorization: sPLUNK AAAAAAAA222233334444555555555555\r\nHost: x\r\n\r\n",
+        ],
+        "400 No\r\n\r\n{\"code\":14}",
+        "400, code 14: its token has no ack ids; it stands in line 5 of tokens",
+    ),
     // the same one again, after one without
-    (&["POST / HTTP/1.1\r\n\r\n", "POST / HTTP/1.1\r\nAuthorization: Splunk 11111111-2222-3333-4444-555555555555\r\nContent-Length: 2\r\n\r\n{}", "POST / HTTP/1.1\r\nAuthorization: Splunk 11111111-2222-3333-4444-555555555555\r\nContent-Length: 0\r\n\r\n"], "400 No\r\n\r\n{\"code\":14}", "400, code 14: its token has no ack ids; it stands in line 3 of tokens"),
+    (
+        &[
+            "POST / HTTP/1.1\r\n\r\n",
+            "POST / HTTP/1.1\r\nAuthorization: Splunk 11111111-2222-3333-4444-555555555555\r\nContent-Length: 2\r\n\r\n{}",
+            "POST / HTTP/1.1\r\nAuthorization: Splunk 11111111-2222-3333-4444-555555555555\r\nContent-Length: 0\r\n\r\n",
+        ],
+        "400 No\r\n\r\n{\"code\":14}",
+        "400, code 14: its token has no ack ids; it stands in line 3 of tokens",
+    ),
     // a body has one, in the piece of its head and in another
-    (&["POST / HTTP/1.1\r\nAuthorization: Splunk 11111111-2222-3333-4444-555555555555\r\nContent-Length: 75\r\n\r\nPOST / HTTP/1.1\r\nAuthorization: Splunk AAAAAAAA222233334444555555555555\r\n\r\n"], "400 No\r\n\r\n{\"code\":14}", "400, code 14: its token has no ack ids; it stands in line 3 of tokens"),
-    (&["POST / HTTP/1.1\r\nAuthorization: Splunk 11111111-2222-3333-4444-555555555555\r\nContent-Length: 77\r\n\r\n", "POST / HTTP/1.1\r\nAuthorization: Splunk AAAAAAAA222233334444555555555555\r\n\r\n", "{}"], "400 No\r\n\r\n{\"code\":14}", "400, code 14: its token has no ack ids; it stands in line 3 of tokens"),
+    (
+        &[
+            "POST / HTTP/1.1\r\nAuthorization: Splunk 11111111-2222-3333-4444-555555555555\r\nContent-Length: 75\r\n\r\nPOST / HTTP/1.1\r\nAuthorization: Splunk AAAAAAAA222233334444555555555555\r\n\r\n",
+        ],
+        "400 No\r\n\r\n{\"code\":14}",
+        "400, code 14: its token has no ack ids; it stands in line 3 of tokens",
+    ),
+    (
+        &[
+            "POST / HTTP/1.1\r\nAuthorization: Splunk 11111111-2222-3333-4444-555555555555\r\nContent-Length: 77\r\n\r\n",
+            "POST / HTTP/1.1\r\nAuthorization: Splunk AAAAAAAA222233334444555555555555\r\n\r\n",
+            "{}",
+        ],
+        "400 No\r\n\r\n{\"code\":14}",
+        "400, code 14: its token has no ack ids; it stands in line 3 of tokens",
+    ),
     // which ends its connection
-    (&["POST / HTTP/1.1\r\nAuthorization: Splunk 11111111-2222-3333-4444-555555555555\r\n\r\n"], "400 No\r\nConnection: close\r\n\r\n{\"code\":14}", "400, code 14: its token has no ack ids; it stands in line 3 of tokens"),
+    (
+        &["POST / HTTP/1.1\r\nAuthorization: Splunk 11111111-2222-3333-4444-555555555555\r\n\r\n"],
+        "400 No\r\nConnection: close\r\n\r\n{\"code\":14}",
+        "400, code 14: its token has no ack ids; it stands in line 3 of tokens",
+    ),
     // another reason
-    (&["POST / HTTP/1.1\r\nAuthorization: Splunk 11111111-2222-3333-4444-555555555555\r\n\r\n"], "403 No\r\n\r\n{\"code\":4}", "403, code 4: its token isn't known"),
+    (
+        &["POST / HTTP/1.1\r\nAuthorization: Splunk 11111111-2222-3333-4444-555555555555\r\n\r\n"],
+        "403 No\r\n\r\n{\"code\":4}",
+        "403, code 4: its token isn't known",
+    ),
     // it stands in no line
-    (&["POST / HTTP/1.1\r\nAuthorization: Splunk 99999999-2222-3333-4444-555555555555\r\n\r\n"], "400 No\r\n\r\n{\"code\":14}", "400, code 14: its token has no ack ids"),
+    (
+        &["POST / HTTP/1.1\r\nAuthorization: Splunk 99999999-2222-3333-4444-555555555555\r\n\r\n"],
+        "400 No\r\n\r\n{\"code\":14}",
+        "400, code 14: its token has no ack ids",
+    ),
     // two of them, in two pieces and in one
-    (&["POST / HTTP/1.1\r\nAuthorization: Splunk 11111111-2222-3333-4444-555555555555\r\n\r\n", "POST / HTTP/1.1\r\nAuthorization: Splunk AAAAAAAA222233334444555555555555\r\n\r\n"], "400 No\r\n\r\n{\"code\":14}", "400, code 14: its token has no ack ids"),
-    (&["POST / HTTP/1.1\r\nAuthorization: Splunk 11111111-2222-3333-4444-555555555555\r\n\r\nPOST / HTTP/1.1\r\nAuthorization: Splunk AAAAAAAA222233334444555555555555\r\n\r\n"], "400 No\r\n\r\n{\"code\":14}", "400, code 14: its token has no ack ids"),
+    (
+        &[
+            "POST / HTTP/1.1\r\nAuthorization: Splunk 11111111-2222-3333-4444-555555555555\r\n\r\n",
+            "POST / HTTP/1.1\r\nAuthorization: Splunk AAAAAAAA222233334444555555555555\r\n\r\n",
+        ],
+        "400 No\r\n\r\n{\"code\":14}",
+        "400, code 14: its token has no ack ids",
+    ),
+    (
+        &[
+            "POST / HTTP/1.1\r\nAuthorization: Splunk 11111111-2222-3333-4444-555555555555\r\n\r\nPOST / HTTP/1.1\r\nAuthorization: Splunk AAAAAAAA222233334444555555555555\r\n\r\n",
+        ],
+        "400 No\r\n\r\n{\"code\":14}",
+        "400, code 14: its token has no ack ids",
+    ),
     // a head in two pieces
-    (&["POST / HTTP/1.1\r\nAuthorization", ": Splunk 11111111-2222-3333-4444-555555555555\r\n\r\n"], "400 No\r\n\r\n{\"code\":14}", "400, code 14: its token has no ack ids"),
+    (
+        &[
+            "POST / HTTP/1.1\r\nAuthorization",
+            ": Splunk 11111111-2222-3333-4444-555555555555\r\n\r\n",
+        ],
+        "400 No\r\n\r\n{\"code\":14}",
+        "400, code 14: its token has no ack ids",
+    ),
     // after a head in two pieces
-    (&["POST / HTTP/1.1\r\nAuthorization: Splunk A", "AAAAAAA222233334444555555555555\r\n\r\n", "POST / HTTP/1.1\r\nAuthorization: Splunk 11111111-2222-3333-4444-555555555555\r\n\r\n"], "400 No\r\n\r\n{\"code\":14}", "400, code 14: its token has no ack ids"),
+    (
+        &[
+            "POST / HTTP/1.1\r\nAuthorization: Splunk A",
+            "AAAAAAA222233334444555555555555\r\n\r\n",
+            "POST / HTTP/1.1\r\nAuthorization: Splunk 11111111-2222-3333-4444-555555555555\r\n\r\n",
+        ],
+        "400 No\r\n\r\n{\"code\":14}",
+        "400, code 14: its token has no ack ids",
+    ),
     // a body that ends in the piece of the next request
-    (&["POST / HTTP/1.1\r\nAuthorization: Splunk 11111111-2222-3333-4444-555555555555\r\nContent-Length: 2\r\n\r\n", "{}POST / HTTP/1.1\r\nAuthorization: Splunk AAAAAAAA222233334444555555555555\r\n\r\n"], "400 No\r\n\r\n{\"code\":14}", "400, code 14: its token has no ack ids"),
+    (
+        &[
+            "POST / HTTP/1.1\r\nAuthorization: Splunk 11111111-2222-3333-4444-555555555555\r\nContent-Length: 2\r\n\r\n",
+            "{}POST / HTTP/1.1\r\nAuthorization: Splunk AAAAAAAA222233334444555555555555\r\n\r\n",
+        ],
+        "400 No\r\n\r\n{\"code\":14}",
+        "400, code 14: its token has no ack ids",
+    ),
     // a length that is said twice, and none that is said
-    (&["POST / HTTP/1.1\r\nAuthorization: Splunk 11111111-2222-3333-4444-555555555555\r\nContent-Length: 0\r\nContent-Length: 2\r\n\r\n"], "400 No\r\n\r\n{\"code\":14}", "400, code 14: its token has no ack ids"),
-    (&["POST / HTTP/1.1\r\nAuthorization: Splunk 11111111-2222-3333-4444-555555555555\r\nTransfer-Encoding: chunked\r\n\r\n"], "400 No\r\n\r\n{\"code\":14}", "400, code 14: its token has no ack ids"),
+    (
+        &[
+            "POST / HTTP/1.1\r\nAuthorization: Splunk 11111111-2222-3333-4444-555555555555\r\nContent-Length: 0\r\nContent-Length: 2\r\n\r\n",
+        ],
+        "400 No\r\n\r\n{\"code\":14}",
+        "400, code 14: its token has no ack ids",
+    ),
+    (
+        &[
+            "POST / HTTP/1.1\r\nAuthorization: Splunk 11111111-2222-3333-4444-555555555555\r\nTransfer-Encoding: chunked\r\n\r\n",
+        ],
+        "400 No\r\n\r\n{\"code\":14}",
+        "400, code 14: its token has no ack ids",
+    ),
     // no GUID
-    (&["POST / HTTP/1.1\r\nAuthorization: Splunk A\r\n\r\n"], "400 No\r\n\r\n{\"code\":14}", "400, code 14: its token has no ack ids"),
+    (
+        &["POST / HTTP/1.1\r\nAuthorization: Splunk A\r\n\r\n"],
+        "400 No\r\n\r\n{\"code\":14}",
+        "400, code 14: its token has no ack ids",
+    ),
 ];
 
 // Waits of a second for a peer, and none of doors for each other.
