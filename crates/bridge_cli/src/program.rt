@@ -5,20 +5,20 @@ use bridge_words::Command;
 use cli_files::{SystemFiles, run_rescue, run_skip};
 use cli_parts::{
     Arguments, Ending, Host, NoArguments, RunOptions, Shown, StandardError, Taken, Told, Untaken,
-    answer, confirm, hold_streams, keep_freed, print_beside_usage, print_beside_wrong_option,
-    print_ending, print_error, print_note, print_start, rescue_of, skip_of, take_options,
-    version_day, with_bytes, with_tokens,
+    WithTokens, answer, confirm, hold_streams, keep_freed, print_beside_usage,
+    print_beside_wrong_option, print_ending, print_error, print_note, print_start, rescue_of,
+    skip_of, take_options, version_day, with_bytes, with_tokens,
 };
 use edge_io::FileIo;
-use edge_net::{Manager, Reports, TcpNet, Waits};
+use edge_net::{Manager, Reports, TcpNet, TokenFile, Waits};
 use notes::Note;
 use std::fs::OpenOptions;
 use std::io::{self, IsTerminal};
 use std::sync::{Arc, Wait};
 use std::thread::Threads;
 
-// What is said of the net, and how much memory its connections may take, as the options have it.
-fn reports_of(options: RunOptions) -> Reports {
+// What is said of the net, whose senders may have tokens of a file, and how much memory its connections may take, as the options have it.
+fn reports_of(options: RunOptions, tokens: Option<TokenFile>) -> Reports {
     let reports = if options.is_quiet {
         Reports::quiet()
     } else {
@@ -26,7 +26,8 @@ fn reports_of(options: RunOptions) -> Reports {
     };
     let reports = reports
         .of_version(version_day())
-        .with_verbose(options.is_verbose);
+        .with_verbose(options.is_verbose)
+        .with_tokens(tokens);
     match options.memory {
         Some(bytes) => reports.with_memory(bytes),
         None => reports,
@@ -97,6 +98,7 @@ fn run_arguments<R: Threads + Wait + Sync>(
     threads: &R,
     arguments: &Arguments,
     options: RunOptions,
+    tokens: Option<TokenFile>,
     errors: &StandardError,
 ) -> Ending {
     let host = Host { rt, errors };
@@ -113,7 +115,7 @@ fn run_arguments<R: Threads + Wait + Sync>(
     if let Some(rescue) = rescue_of(&arguments.words) {
         return run_rescue(host, &files, &arguments.file, rescue.layout, &mut output);
     }
-    let reports = reports_of(options);
+    let reports = reports_of(options, tokens);
     let told = Told {
         file: reports.file(),
     };
@@ -141,6 +143,7 @@ fn run_taken<R: Threads + Wait + Sync + Copy + Send + 'static>(
     threads: &R,
     arguments: &Arguments,
     options: RunOptions,
+    tokens: Option<TokenFile>,
 ) -> Ending {
     let alloc = rt.alloc();
     let Ok(errors) = Arc::new(alloc, StandardError::new(rt, options.has_time)) else {
@@ -160,7 +163,7 @@ fn run_taken<R: Threads + Wait + Sync + Copy + Send + 'static>(
             errors.finish(rt);
         }
     }
-    let ending = run_arguments(rt, threads, arguments, options, &errors);
+    let ending = run_arguments(rt, threads, arguments, options, tokens, &errors);
     print_ending(&(&*errors, alloc), arguments, ending);
     if ending == Ending::Noted(Note::Usage) {
         print_beside_usage(&(&*errors, alloc), arguments);
@@ -171,7 +174,7 @@ fn run_taken<R: Threads + Wait + Sync + Copy + Send + 'static>(
 
 // The words with what they stand for in the places of SIZE with a unit, and of the files that hold tokens. The error is the note with which
 // the run ends; standard error has said it.
-fn with_values(host: Host<'_>, words: Vec<String>) -> Result<Vec<String>, Note> {
+fn with_values(host: Host<'_>, words: Vec<String>) -> Result<WithTokens, Note> {
     match with_bytes(host.rt.alloc(), words) {
         Ok(words) => with_tokens(host, words),
         Err(_) => {
@@ -196,12 +199,15 @@ fn run_all<R: Threads + Wait + Sync + Copy + Send + 'static>(
                 rt,
                 errors: &errors,
             };
-            let words = match with_values(host, words) {
-                Ok(words) => words,
+            let WithTokens {
+                words,
+                file: tokens,
+            } = match with_values(host, words) {
+                Ok(values) => values,
                 Err(note) => return Ending::Noted(note),
             };
             let arguments = Arguments { file, words };
-            run_taken(rt, threads, &arguments, options)
+            run_taken(rt, threads, &arguments, options, tokens)
         }
         Err(Untaken::Wrong(wrong)) => {
             let said = (StandardError::new(rt, false), rt.alloc());

@@ -8,6 +8,7 @@ use crate::report::{print_line, print_note};
 use crate::token_lines::TokenLines;
 use crate::token_words::{FileOption, OUT_TOKEN, TOKENS, file_word_in, put_text};
 use bridge_words::{WordsFault, wrong_words};
+use edge_net::TokenFile;
 use notes::Note;
 use std::alloc::{AllocError, Global};
 use std::fs::{self, OpenOptions};
@@ -103,8 +104,8 @@ fn tokens_in(host: Host<'_>, name: &str) -> Result<TokenLines, Refused> {
     }
 }
 
-// The list in the file of this name that `--tokens` has.
-fn list_in(host: Host<'_>, name: &str) -> Result<String, Refused> {
+// The lines of the file of this name that `--tokens` has.
+fn list_in(host: Host<'_>, name: &str) -> Result<TokenLines, Refused> {
     if name == "-" {
         print_line(
             &host,
@@ -112,8 +113,7 @@ fn list_in(host: Host<'_>, name: &str) -> Result<String, Refused> {
         );
         return Err(Refused::Wrong);
     }
-    let lines = tokens_in(host, name)?;
-    Ok(lines.list)
+    tokens_in(host, name)
 }
 
 // The one token in the file of this name that `--out-token` has.
@@ -160,27 +160,49 @@ fn take_name(
     Ok(Some(Named { at, kept, name }))
 }
 
-// Puts what the files hold that words name into their names' places, unless they are no command whatever these have: then none is read.
-fn put_files(host: Host<'_>, words: &mut [String]) -> Result<(), Refused> {
+// Puts the list of `--tokens` into the place of its file's name, and says where each token of it stands.
+fn put_list(host: Host<'_>, words: &mut [String], list: Named) -> Result<TokenFile, Refused>
+    requires within { list.at < length words.old }
+    ensures count { length words.new ≡ length words.old }
+{
+    let alloc = host.rt.alloc();
+    let Named { at, kept, name } = list;
+    let lines = list_in(host, name.as_str())?;
+    put_text(alloc, words, at, kept, lines.list.as_str())?;
+    if wrong_words(alloc, words)? == Some(WordsFault::Tokens) {
+        let _ = eprintln!(host; "bridge: {name}: no token, or more than 1000");
+        return Err(Refused::Wrong);
+    }
+    let places = lines.places;
+    Ok(TokenFile { name, places })
+}
+
+// Puts what the files hold that words name into their names' places, unless they are no command whatever these have: then none is read. It
+// gives the file of `--tokens`, where one was read.
+fn put_files(host: Host<'_>, words: &mut [String]) -> Result<Option<TokenFile>, Refused> {
     let alloc = host.rt.alloc();
     let list = take_name(alloc, words, &TOKENS)?;
     let out = take_name(alloc, words, &OUT_TOKEN)?;
     if (list.is_none() && out.is_none()) || wrong_words(alloc, words)?.is_some() {
-        return Ok(());
+        return Ok(None);
     }
-    if let Some(Named { at, kept, name }) = list {
-        let text = list_in(host, name.as_str())?;
-        put_text(alloc, words, at, kept, text.as_str())?;
-        if wrong_words(alloc, words)? == Some(WordsFault::Tokens) {
-            let _ = eprintln!(host; "bridge: {name}: no token, or more than 1000");
-            return Err(Refused::Wrong);
-        }
-    }
+    let file = match list {
+        Some(list) => Some(put_list(host, words, list)?),
+        None => None,
+    };
     if let Some(Named { at, kept, name }) = out {
         let text = one_in(host, name.as_str())?;
         put_text(alloc, words, at, kept, text.as_str())?;
     }
-    Ok(())
+    Ok(file)
+}
+
+/// Words of which none names a file of tokens.
+#[derive(Drop)]
+pub struct WithTokens {
+    pub words: Vec<String>,
+    /// The file of `--tokens`, with the line of each token, where there was one.
+    pub file: Option<TokenFile>,
 }
 
 /// The words with what files hold in the places of their names, where they are those of a server with `--tokens FILE`, or of a command with
@@ -191,9 +213,9 @@ fn put_files(host: Host<'_>, words: &mut [String]) -> Result<(), Refused> {
 ///
 /// The error is the note with which the run ends then. Standard error has said why: each line that is wrong by its number, or why the file
 /// couldn't be read. It is warned there where others than its owner may read or write it.
-pub fn with_tokens(host: Host<'_>, mut words: Vec<String>) -> Result<Vec<String>, Note> {
+pub fn with_tokens(host: Host<'_>, mut words: Vec<String>) -> Result<WithTokens, Note> {
     match put_files(host, &mut words) {
-        Ok(()) => Ok(words),
+        Ok(file) => Ok(WithTokens { words, file }),
         Err(Refused::Wrong) => Err(Note::Usage),
         Err(Refused::Unread) => Err(Note::DiskFault),
         Err(Refused::NoMemory) => {
