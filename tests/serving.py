@@ -104,13 +104,14 @@ class Server:
             os.remove(self.spool)
         subprocess.run([program, self.spool, "format", str(slots), str(size)], check=True, stdout=subprocess.DEVNULL)
 
-    def start(self, *words, places=("relp", "lumberjack", "hec"), to=None, environment=None, limit=None):
-        """Starts it at these places, forwarding to the port `to` where there is one, with this environment or that of the caller, and so many
-        descriptors at most."""
+    def start(self, *words, places=("relp", "lumberjack", "hec"), to=None, environment=None, limit=None, tokens=None):
+        """Starts it at these places, forwarding to the port `to` where there is one, with this environment or that of the caller, so many
+        descriptors at most, and the tokens of this file, where there is one."""
         said = [word for place in places for word in (f"--{place}", f"127.0.0.1:{self.ports[place]}")]
         if to is not None:
             said += ["--forward", "relp", "--to", f"127.0.0.1:{to}"]
-        command = [self.program, self.spool, "serve", *said, "--token", TOKEN, "--ack-token", ACK_TOKEN, *self.manner, *words]
+        known = ["--token", TOKEN, "--ack-token", ACK_TOKEN] if tokens is None else ["--tokens", tokens]
+        command = [self.program, self.spool, "serve", *said, *known, *self.manner, *words]
         pipes = {"stdin": subprocess.DEVNULL, "stdout": subprocess.PIPE, "stderr": subprocess.PIPE}
         if limit is not None:
             command[:0] = ["sh", "-c", f'ulimit -n {limit} && exec "$0" "$@"']

@@ -381,6 +381,18 @@ def unread_end(check, program, library, folder):
     server.kill()
 
 
+def last_lines(words):
+    """Runs a command whose standard error is the stream that JOURNAL_STREAM names, and returns how it ended and its lines there."""
+    read, write = os.pipe()
+    seen = os.fstat(write)
+    environment = {**os.environ, "JOURNAL_STREAM": f"{seen.st_dev}:{seen.st_ino}"}
+    with subprocess.Popen(words, env=environment, stdin=subprocess.DEVNULL, stdout=subprocess.DEVNULL, stderr=write) as child:
+        os.close(write)
+        with os.fdopen(read, "rb") as stream:
+            lines = stream.read().decode().splitlines()
+    return child.returncode, lines
+
+
 def journal(check, program, library, folder):
     """Lines have how grave they are before them where standard error is the stream that JOURNAL_STREAM names; and else the time, with
     --log-time, or nothing."""
@@ -437,6 +449,31 @@ def journal(check, program, library, folder):
         lines = stream.read().decode().splitlines()
     said = "bridge: FILE was removed or renamed; nothing is acknowledged until FILE is well again"
     check("journal: a FILE that isn't well is an error", f"<3>{said}" in lines, lines)
+    # So is each line with which a command ends, also where FILE isn't opened and where the words are wrong.
+    serve = ["serve", "--relp", f"127.0.0.1:{serving.free_ports(1)[0]}", "--quiet"]
+    server = serving.Server(program, folder)
+    file = server.spool
+    with open(file, "r+b") as held:
+        fcntl.flock(held, fcntl.LOCK_EX)
+        seen = last_lines([program, file, *serve])
+    check("journal: FILE in use", seen == (80, [f"<3>bridge: {file}: in use"]), seen)
+    seen = last_lines([program, f"{file}.none", *serve])
+    check("journal: no FILE", seen == (73, [f"<3>bridge: {file}.none: not found"]), seen)
+    seen = last_lines([program, file, *serve, "--quiet"])
+    holds = seen[0] == 64 and len(seen[1]) == 2 and all(line.startswith("<3>bridge: ") for line in seen[1])
+    check("journal: an option that is wrong", holds, seen)
+    seen = last_lines([program, file, "skip", "x"])
+    holds = seen[0] == 64 and len(seen[1]) == 2 and all(line.startswith("<3>bridge: ") for line in seen[1])
+    check("journal: a word that is wrong", holds, seen)
+    seen = last_lines([program, file, "rescue"])
+    holds = seen[0] == 0 and len(seen[1]) == 1 and seen[1][0].startswith("<3>bridge: slots: ")
+    check("journal: a rescue", holds, seen)
+    # (the number of the last run, in the register's first cell)
+    with open(file, "r+b") as held:
+        held.seek(4110)
+        held.write(bytes.fromhex("00000000001fffff"))
+    seen = last_lines([program, file, *serve])
+    check("journal: no run is left", seen == (76, ["<3>bridge: run 2097151 was the last"]), seen)
 
 
 def on_terminal(words):

@@ -21,7 +21,7 @@ ghost use Rattle.spool_move.specs.Leave.{MayMove};
 use crate::over::{run_bare, run_once, run_over};
 use bridge_words::{Need, need_of};
 use cli_files::{Files, How, refuse, run_move};
-use cli_parts::{Ending, Opening, Told, Waiting, print_no_spool};
+use cli_parts::{Ending, Host, Opening, Told, Waiting, print_no_spool};
 use edge_disk::Disk;
 use edge_io::{Door, Net, Sink, Source};
 use notes::Note;
@@ -30,7 +30,7 @@ use std::thread::Threads;
 
 // Runs `format` over `file`, which is made where there is none and filled where it is empty.
 fn run_made<F: Files, S: Source, K: Sink, N: Net>(
-    rt: &HostRuntime,
+    host: Host<'_>,
     files: &F,
     file: &str,
     len: u64,
@@ -64,18 +64,18 @@ where
         Ok(disk) => {
             let waiting = Waiting::Nobody;
             let note = run_once(
-                rt, words, disk, file, false, waiting, told, input, output, net,
+                host, words, disk, file, false, waiting, told, input, output, net,
             )
             .note;
             Ending::Noted(note)
         }
-        Err(fault) => refuse(rt, file, fault),
+        Err(fault) => refuse(host, file, fault),
     }
 }
 
 // Runs the words over `file`, which exists and is shared as they want it. Only those of `serve` take threads, and may wait.
 fn run_existing<F: Files, S: Source, K: Sink, N: Net + Send, R: Threads + Wait + Sync>(
-    rt: &HostRuntime,
+    host: Host<'_>,
     threads: &R,
     files: &F,
     file: &str,
@@ -115,19 +115,19 @@ where
         ⊎ OverOpened (F.D.Disk, S.Source.own, K.Sink.own, N.told, N.P.told) (F.opened file.now) (map string_bytes words.now)
         (input.old, output.old, net.old) (input.new, output.new, net.new) (note_in result) }
 {
-    let Ok(opening) = Opening::of(rt.alloc(), words) else {
+    let Ok(opening) = Opening::of(host.rt.alloc(), words) else {
         return Ending::Noted(Note::NoMemory);
     };
     match files.open(file, How::Existing(opening.sharing)) {
         Ok(disk) => {
             let note = run_over(
-                rt, threads, words, disk, file, opening, told, input, output, net,
+                host, threads, words, disk, file, opening, told, input, output, net,
             )
             .note;
-            print_no_spool(rt, file, note);
+            print_no_spool(&host, file, note);
             Ending::Noted(note)
         }
-        Err(fault) => refuse(rt, file, fault),
+        Err(fault) => refuse(host, file, fault),
     }
 }
 
@@ -139,7 +139,7 @@ where
 ///
 /// What was done is what `bridge` does over that disk, opened so: `done`; or what `bridge_move` does over both: `moved`.
 pub fn run_words<F: Files, S: Source, K: Sink, N: Net + Send, R: Threads + Wait + Sync>(
-    rt: &HostRuntime,
+    host: Host<'_>,
     threads: &R,
     files: &F,
     file: &str,
@@ -191,14 +191,16 @@ where
         MovesWatched (two_disks F.D.tells F.D.tells F.D.moment F.D.moment) (map string_bytes words.now) old new
         (output_run K.taken K.write_faults output.old output.new) (note_in result)) }
 {
-    match need_of(rt.alloc(), words) {
-        Ok(Need::Make { len }) => run_made(rt, files, file, len, words, told, input, output, net),
+    match need_of(host.rt.alloc(), words) {
+        Ok(Need::Make { len }) => run_made(host, files, file, len, words, told, input, output, net),
         Ok(Need::Existing) => {
-            run_existing(rt, threads, files, file, words, told, input, output, net)
+            run_existing(host, threads, files, file, words, told, input, output, net)
         }
-        Ok(Need::Pair { target, .. }) => run_move(rt, files, file, target.as_str(), words, output),
-        Ok(Need::NoCommand) => Ending::Noted(run_bare(rt.alloc(), words, input, output, net)),
-        Ok(Need::Nothing) => Ending::Noted(run_bare(rt.alloc(), words, input, output, net)),
+        Ok(Need::Pair { target, .. }) => {
+            run_move(host, files, file, target.as_str(), words, output)
+        }
+        Ok(Need::NoCommand) => Ending::Noted(run_bare(host.rt.alloc(), words, input, output, net)),
+        Ok(Need::Nothing) => Ending::Noted(run_bare(host.rt.alloc(), words, input, output, net)),
         Err(_) => Ending::Noted(Note::NoMemory),
     }
 }

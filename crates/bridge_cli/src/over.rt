@@ -10,7 +10,7 @@ ghost use Rattle.bridge_cli.specs.Texts.{ForTexts};
 ghost use Rattle.bridge_cli.specs.Watched.{KeepsWatched};
 
 use bridge_core::{Ended, bridge, bridge_once};
-use cli_parts::{Opening, Progress, Told, Waiting, Watched};
+use cli_parts::{Host, Opening, Progress, Told, Waiting, Watched};
 use edge_disk::Disk;
 use edge_io::{Door, Net, Sink, Source};
 use edge_memory::MemDisk;
@@ -22,7 +22,7 @@ use std::thread::Threads;
 // Runs the words over the disk, which is the file of this path. It is watched meanwhile, and somebody may wait for it; how it is goes where
 // `told` says. Its reading may be shown. What was done is what `bridge` does, and nothing else: of the disk, of the streams and of the net.
 fn run_serving<D: Disk + Drop + Send, S: Source, K: Sink, N: Net + Send, R: Threads + Wait + Sync>(
-    rt: &HostRuntime,
+    host: Host<'_>,
     threads: &R,
     words: &[String],
     disk: D,
@@ -56,14 +56,14 @@ where
     ensures run { KeepsWatched (D.Disk, S.Source.own, K.Sink.own, N.told, N.P.told) (map string_bytes words.now)
         (disk, input.old, output.old, net.old) (input.new, output.new, net.new) result }
 {
-    let progress = Progress::new(rt, is_shown);
+    let progress = Progress::new(host, is_shown);
     let disk = Watched::new(disk, progress, "FILE", waiting).noting(told, path);
     let Ended {
         status,
         note,
         disk,
         doors,
-    } = bridge(threads, rt.alloc(), words, disk, input, output, net);
+    } = bridge(threads, host.rt.alloc(), words, disk, input, output, net);
     Ended {
         status,
         note,
@@ -75,7 +75,7 @@ where
 /// Runs words that are none of `serve` over the disk, which is the file of this path. It is watched meanwhile, and somebody may wait for it;
 /// how it is goes where `told` says. Its reading may be shown. What was done is what `bridge_once` does, and nothing else, and it ends.
 pub(crate) fn run_once<D: Disk, S: Source, K: Sink, N: Net>(
-    rt: &HostRuntime,
+    host: Host<'_>,
     words: &[String],
     disk: D,
     path: &str,
@@ -99,14 +99,14 @@ pub(crate) fn run_once<D: Disk, S: Source, K: Sink, N: Net>(
     ensures run { KeepsWatched (D.Disk, S.Source.own, K.Sink.own, N.told, N.P.told) (map string_bytes words.now)
         (disk, input.old, output.old, net.old) (input.new, output.new, net.new) result }
 {
-    let progress = Progress::new(rt, is_shown);
+    let progress = Progress::new(host, is_shown);
     let disk = Watched::new(disk, progress, "FILE", waiting).noting(told, path);
     let Ended {
         status,
         note,
         disk,
         doors,
-    } = bridge_once(rt.alloc(), words, disk, input, output, net);
+    } = bridge_once(host.rt.alloc(), words, disk, input, output, net);
     Ended {
         status,
         note,
@@ -125,7 +125,7 @@ pub(crate) fn run_over<
     N: Net + Send,
     R: Threads + Wait + Sync,
 >(
-    rt: &HostRuntime,
+    host: Host<'_>,
     threads: &R,
     words: &[String],
     disk: D,
@@ -159,15 +159,15 @@ where
     ensures run { KeepsWatched (D.Disk, S.Source.own, K.Sink.own, N.told, N.P.told) (map string_bytes words.now)
         (disk, input.old, output.old, net.old) (input.new, output.new, net.new) result }
 {
-    let is_shown = opening.showing.is_seen(rt);
+    let is_shown = opening.showing.is_seen(host.rt);
     let waiting = opening.waiting;
     if opening.is_serving {
         run_serving(
-            rt, threads, words, disk, path, is_shown, waiting, told, input, output, net,
+            host, threads, words, disk, path, is_shown, waiting, told, input, output, net,
         )
     } else {
         run_once(
-            rt, words, disk, path, is_shown, waiting, told, input, output, net,
+            host, words, disk, path, is_shown, waiting, told, input, output, net,
         )
     }
 }

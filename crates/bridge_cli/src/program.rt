@@ -5,20 +5,20 @@ use bridge_words::Command;
 use cli_files::{SystemFiles, run_rescue, run_skip};
 use cli_parts::{
     Arguments, Ending, Host, NoArguments, RunOptions, Shown, StandardError, Taken, Told, Untaken,
-    answer, confirm, hold_streams, keep_freed, print_beside_usage, print_beside_wrong_option,
-    print_ending, print_error, print_note, print_start, rescue_of, skip_of, take_options,
-    version_day, with_bytes, with_tokens,
+    WithTokens, answer, confirm, hold_streams, keep_freed, print_beside_usage,
+    print_beside_wrong_option, print_ending, print_error, print_note, print_start, rescue_of,
+    skip_of, take_options, version_day, with_bytes, with_tokens,
 };
 use edge_io::FileIo;
-use edge_net::{Manager, Reports, TcpNet, Waits};
+use edge_net::{Manager, Reports, TcpNet, TokenFile, Waits};
 use notes::Note;
 use std::fs::OpenOptions;
 use std::io::{self, IsTerminal};
 use std::sync::{Arc, Wait};
 use std::thread::Threads;
 
-// What is said of the net, and how much memory its connections may take, as the options have it.
-fn reports_of(options: RunOptions) -> Reports {
+// What is said of the net, whose senders may have tokens of a file, and how much memory its connections may take, as the options have it.
+fn reports_of(options: RunOptions, tokens: Option<TokenFile>) -> Reports {
     let reports = if options.is_quiet {
         Reports::quiet()
     } else {
@@ -26,7 +26,8 @@ fn reports_of(options: RunOptions) -> Reports {
     };
     let reports = reports
         .of_version(version_day())
-        .with_verbose(options.is_verbose);
+        .with_verbose(options.is_verbose)
+        .with_tokens(tokens);
     match options.memory {
         Some(bytes) => reports.with_memory(bytes),
         None => reports,
@@ -97,9 +98,11 @@ fn run_arguments<R: Threads + Wait + Sync>(
     threads: &R,
     arguments: &Arguments,
     options: RunOptions,
+    tokens: Option<TokenFile>,
     errors: &StandardError,
 ) -> Ending {
-    if let Err(ending) = confirm(rt, arguments) {
+    let host = Host { rt, errors };
+    if let Err(ending) = confirm(host, arguments) {
         return ending;
     }
     let mut input = FileIo::of(rt.reader());
@@ -107,16 +110,14 @@ fn run_arguments<R: Threads + Wait + Sync>(
     let mut output = FileIo::of(Shown::over(rt.alloc(), io::writer(rt), is_terminal));
     let files = SystemFiles::new(rt);
     if let Some(number) = skip_of(&arguments.words) {
-        return run_skip(rt, &files, &arguments.file, number, &mut output);
+        return run_skip(host, &files, &arguments.file, number, &mut output);
     }
     if let Some(rescue) = rescue_of(&arguments.words) {
-        return run_rescue(rt, &files, &arguments.file, rescue.layout, &mut output);
+        return run_rescue(host, &files, &arguments.file, rescue.layout, &mut output);
     }
-    let reports = reports_of(options);
-    let host = Host { rt, errors };
+    let reports = reports_of(options, tokens);
     let told = Told {
         file: reports.file(),
-        errors,
     };
     let net = TcpNet::with_waits(rt.alloc(), &host, &reports, waits_of(options));
     let mut net = net.telling(Manager::named(rt));
@@ -124,7 +125,7 @@ fn run_arguments<R: Threads + Wait + Sync>(
         return ending;
     }
     run_words(
-        rt,
+        host,
         threads,
         &files,
         &arguments.file,
@@ -142,15 +143,19 @@ fn run_taken<R: Threads + Wait + Sync + Copy + Send + 'static>(
     threads: &R,
     arguments: &Arguments,
     options: RunOptions,
+    tokens: Option<TokenFile>,
 ) -> Ending {
     let alloc = rt.alloc();
     let Ok(errors) = Arc::new(alloc, StandardError::new(rt, options.has_time)) else {
-        print_note(rt, Note::NoMemory);
+        print_note(
+            &(StandardError::new(rt, options.has_time), alloc),
+            Note::NoMemory,
+        );
         return Ending::Noted(Note::NoMemory);
     };
     if asks_for(arguments, "serve") {
         if StandardError::start(threads, &errors).is_err() {
-            print_note(rt, Note::NoMemory);
+            print_note(&(&*errors, alloc), Note::NoMemory);
             return Ending::Noted(Note::NoMemory);
         }
         if !options.is_quiet {
@@ -158,28 +163,28 @@ fn run_taken<R: Threads + Wait + Sync + Copy + Send + 'static>(
             errors.finish(rt);
         }
     }
-    let ending = run_arguments(rt, threads, arguments, options, &errors);
+    let ending = run_arguments(rt, threads, arguments, options, tokens, &errors);
     print_ending(&(&*errors, alloc), arguments, ending);
-    errors.finish(rt);
     if ending == Ending::Noted(Note::Usage) {
-        print_beside_usage(rt, arguments);
+        print_beside_usage(&(&*errors, alloc), arguments);
     }
+    errors.finish(rt);
     ending
 }
 
 // The words with what they stand for in the places of SIZE with a unit, and of the files that hold tokens. The error is the note with which
 // the run ends; standard error has said it.
-fn with_values(rt: &HostRuntime, words: Vec<String>) -> Result<Vec<String>, Note> {
-    match with_bytes(rt.alloc(), words) {
-        Ok(words) => with_tokens(rt, words),
+fn with_values(host: Host<'_>, words: Vec<String>) -> Result<WithTokens, Note> {
+    match with_bytes(host.rt.alloc(), words) {
+        Ok(words) => with_tokens(host, words),
         Err(_) => {
-            print_note(rt, Note::NoMemory);
+            print_note(&(host, host.rt.alloc()), Note::NoMemory);
             Err(Note::NoMemory)
         }
     }
 }
 
-// The same where the options of the run stand among the words, which are taken out of them.
+// The same where the options of the run stand among the words, which are taken out of them. Where one of them is wrong, lines have no time.
 fn run_all<R: Threads + Wait + Sync + Copy + Send + 'static>(
     rt: &HostRuntime,
     threads: &R,
@@ -189,20 +194,29 @@ fn run_all<R: Threads + Wait + Sync + Copy + Send + 'static>(
     let Arguments { file, words } = arguments;
     match taken {
         Ok(Taken { words, options }) => {
-            let words = match with_values(rt, words) {
-                Ok(words) => words,
+            let errors = StandardError::new(rt, options.has_time);
+            let host = Host {
+                rt,
+                errors: &errors,
+            };
+            let WithTokens {
+                words,
+                file: tokens,
+            } = match with_values(host, words) {
+                Ok(values) => values,
                 Err(note) => return Ending::Noted(note),
             };
             let arguments = Arguments { file, words };
-            run_taken(rt, threads, &arguments, options)
+            run_taken(rt, threads, &arguments, options, tokens)
         }
         Err(Untaken::Wrong(wrong)) => {
-            print_note(rt, Note::Usage);
-            print_beside_wrong_option(rt, &Arguments { file, words }, wrong);
+            let said = (StandardError::new(rt, false), rt.alloc());
+            print_note(&said, Note::Usage);
+            print_beside_wrong_option(&said, &Arguments { file, words }, wrong);
             Ending::Noted(Note::Usage)
         }
         Err(Untaken::NoMemory) => {
-            print_note(rt, Note::NoMemory);
+            print_note(&(StandardError::new(rt, false), rt.alloc()), Note::NoMemory);
             Ending::Noted(Note::NoMemory)
         }
     }
@@ -218,18 +232,19 @@ pub fn run<R: Threads + Wait + Sync + Copy + Send + 'static>(
 ) -> Ending {
     let _held = hold_streams(rt);
     keep_freed(rt.alloc());
+    let said = (StandardError::new(rt, false), rt.alloc());
     match Arguments::read(rt) {
-        Ok(arguments) => match answer(rt, &arguments) {
+        Ok(arguments) => match answer(rt, &said, &arguments) {
             Some(ending) => ending,
             None => run_all(rt, threads, arguments),
         },
         Err(NoArguments::NoText) => {
-            print_note(rt, Note::Usage);
-            print_error(rt, &NoArguments::NoText);
+            print_note(&said, Note::Usage);
+            print_error(&said, &NoArguments::NoText);
             Ending::Noted(Note::Usage)
         }
         Err(NoArguments::NoMemory) => {
-            print_note(rt, Note::NoMemory);
+            print_note(&said, Note::NoMemory);
             Ending::Noted(Note::NoMemory)
         }
     }

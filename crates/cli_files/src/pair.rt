@@ -16,7 +16,7 @@ ghost use Rattle.cli_files.specs.Watched.{MovesWatched};
 use crate::files::Files;
 use crate::refused::refuse;
 use bridge_move::{Moved, bridge_move};
-use cli_parts::{Ending, Progress, Showing, Waiting, Watched, print_no_spool};
+use cli_parts::{Ending, Host, Progress, Showing, Waiting, Watched, print_no_spool};
 use edge_disk::Disk;
 use edge_file::PairFault;
 use edge_io::Sink;
@@ -25,7 +25,7 @@ use notes::Note;
 // Runs the words over both disks, which are watched meanwhile. The reading of the first may be shown. What was done is what `bridge_move`
 // does, and nothing else. The names are those of the two, by which standard error says which of them is no spool.
 fn move_over<D: Disk, E: Disk, K: Sink>(
-    rt: &HostRuntime,
+    host: Host<'_>,
     words: &[String],
     names: [&str; 2],
     source: D,
@@ -41,18 +41,28 @@ fn move_over<D: Disk, E: Disk, K: Sink>(
     ensures run { MovesWatched (two_disks D.tells E.tells D.moment E.moment) (map string_bytes words.now) (source, target)
         (result.source, result.target) (output_run K.taken K.write_faults output.old output.new) result.note }
 {
-    let source = Watched::new(source, Progress::new(rt, is_shown), "FILE", Waiting::Nobody);
-    let target = Watched::new(target, Progress::new(rt, false), "TARGET", Waiting::Nobody);
+    let source = Watched::new(
+        source,
+        Progress::new(host, is_shown),
+        "FILE",
+        Waiting::Nobody,
+    );
+    let target = Watched::new(
+        target,
+        Progress::new(host, false),
+        "TARGET",
+        Waiting::Nobody,
+    );
     let Moved {
         status,
         note,
         source,
         target,
-    } = bridge_move(rt.alloc(), words, source, target, output);
+    } = bridge_move(host.rt.alloc(), words, source, target, output);
     // (the first is opened before the second is read)
     let [first, second] = names;
     let name = if target.is_read() { second } else { first };
-    print_no_spool(rt, name, note);
+    print_no_spool(&host, name, note);
     Moved {
         status,
         note,
@@ -62,14 +72,14 @@ fn move_over<D: Disk, E: Disk, K: Sink>(
 }
 
 // Says why the two files weren't opened.
-fn refuse_pair(rt: &HostRuntime, file: &str, target: &str, fault: PairFault) -> Ending
+fn refuse_pair(host: Host<'_>, file: &str, target: &str, fault: PairFault) -> Ending
     ensures { (note_in result ≡ DiskFault) ⊎ (note_in result ≡ NoMemory) }
 {
     match fault {
-        PairFault::First(fault) => refuse(rt, file, fault),
-        PairFault::Second(fault) => refuse(rt, target, fault),
+        PairFault::First(fault) => refuse(host, file, fault),
+        PairFault::Second(fault) => refuse(host, target, fault),
         PairFault::OneFile => {
-            let _ = eprintln!(rt; "bridge: {file} and {target} are one file");
+            let _ = eprintln!(host; "bridge: {file} and {target} are one file");
             Ending::Unopened
         }
     }
@@ -79,7 +89,7 @@ fn refuse_pair(rt: &HostRuntime, file: &str, target: &str, fault: PairFault) -> 
 /// a fault of the disk, or `InUse`, and one file as both is such a fault too; standard error says which, in a line of its own, and which of
 /// them is no spool.
 pub fn run_move<F: Files, K: Sink>(
-    rt: &HostRuntime,
+    host: Host<'_>,
     files: &F,
     file: &str,
     target_path: &str,
@@ -99,9 +109,9 @@ pub fn run_move<F: Files, K: Sink>(
 {
     match files.open_both(file, target_path) {
         Ok((source, target)) => {
-            let is_shown = Showing::Always.is_seen(rt);
+            let is_shown = Showing::Always.is_seen(host.rt);
             let note = move_over(
-                rt,
+                host,
                 words,
                 [file, target_path],
                 source,
@@ -112,6 +122,6 @@ pub fn run_move<F: Files, K: Sink>(
             .note;
             Ending::Noted(note)
         }
-        Err(fault) => refuse_pair(rt, file, target_path, fault),
+        Err(fault) => refuse_pair(host, file, target_path, fault),
     }
 }

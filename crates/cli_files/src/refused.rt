@@ -5,13 +5,13 @@ ghost use Rattle.edge_file.specs.declared.open_fault.OpenFault.TheVariants as Op
 ghost use Rattle.cli_parts.specs.declared.status.Ending.TheVariants as Ending;
 ghost use Rattle.cli_parts.specs.Ending.{note_in};
 
-use cli_parts::{Ending, print_unopened};
+use cli_parts::{Ending, Host, print_unopened};
 use edge_file::OpenFault;
 use notes::Note;
 
 /// Says why the file wasn't opened, and ends with that: `InUse` where it is in use, `NoMemory` where no memory was found, and else
 /// `Unopened`.
-pub fn refuse(rt: &HostRuntime, file: &str, fault: OpenFault) -> Ending
+pub fn refuse(host: Host<'_>, file: &str, fault: OpenFault) -> Ending
     ensures note { (note_in result ≡ DiskFault) ⊎ (note_in result ≡ NoMemory) }
     ensures in_use { (result ≡ Ending.InUse) ↔ (fault ≡ OpenFault.InUse) }
     ensures said { (result ≡ Ending.Unopened) ⊎ ((result ≡ Ending.InUse) ⊎ (note_in result ≡ NoMemory)) }
@@ -19,12 +19,12 @@ pub fn refuse(rt: &HostRuntime, file: &str, fault: OpenFault) -> Ending
 {
     match fault {
         OpenFault::InUse => {
-            print_unopened(rt, file, fault);
+            print_unopened(host.rt, &host, file, fault);
             Ending::InUse
         }
         OpenFault::NoMemory => Ending::Noted(Note::NoMemory),
         _ => {
-            print_unopened(rt, file, fault);
+            print_unopened(host.rt, &host, file, fault);
             Ending::Unopened
         }
     }

@@ -12,14 +12,14 @@ ghost use Rattle.cli_files.specs.Opened.{IsUnopened, OverFile};
 use crate::files::{Files, How};
 use crate::refused::refuse;
 use bridge_rescue::{Layout, Rescued, bridge_rescue};
-use cli_parts::{Ending, Progress, Showing, Waiting, Watched, print_note, print_rescue};
+use cli_parts::{Ending, Host, Progress, Showing, Waiting, Watched, print_note, print_rescue};
 use edge_disk::Disk;
 use edge_io::Sink;
 
 // Rescues the entries of the disk, which is watched meanwhile. Its reading may be shown. What was done is what `bridge_rescue` does, and
 // nothing else; no leave to write to the disk is asked for.
 fn rescue_over<D: Disk, K: Sink>(
-    rt: &HostRuntime,
+    host: Host<'_>,
     given: Option<Layout>,
     disk: D,
     is_shown: bool,
@@ -30,13 +30,13 @@ fn rescue_over<D: Disk, K: Sink>(
     ensures run { IsRescueRun given (disk_run D.tells D.moment disk result.disk) (output_run K.taken K.write_faults output.old output.new)
         result.report result.note }
 {
-    let disk = Watched::new(disk, Progress::new(rt, is_shown), "FILE", Waiting::Nobody);
+    let disk = Watched::new(disk, Progress::new(host, is_shown), "FILE", Waiting::Nobody);
     let Rescued {
         status,
         note,
         report,
         disk,
-    } = bridge_rescue(rt.alloc(), given, disk, output);
+    } = bridge_rescue(host.rt.alloc(), given, disk, output);
     Rescued {
         status,
         note,
@@ -46,16 +46,16 @@ fn rescue_over<D: Disk, K: Sink>(
 }
 
 // Prints the note with which no file was opened. Where a line has said why it isn't, there is none.
-fn print_refused(rt: &HostRuntime, ending: Ending) {
+fn print_refused(host: Host<'_>, ending: Ending) {
     if let Ending::Noted(note) = ending {
-        print_note(rt, note);
+        print_note(&(host, host.rt.alloc()), note);
     }
 }
 
 /// Rescues the entries of `file`, which is opened to be read alone, beside others that read it. One that can't be opened is a fault of the
 /// disk, or `InUse`, and standard error says why in a line of its own; else it says which slots are at fault.
 pub fn run_rescue<F: Files, K: Sink>(
-    rt: &HostRuntime,
+    host: Host<'_>,
     files: &F,
     file: &str,
     given: Option<Layout>,
@@ -70,14 +70,19 @@ pub fn run_rescue<F: Files, K: Sink>(
 {
     match files.open(file, How::ToRead) {
         Ok(disk) => {
-            let is_shown = Showing::Apart.is_seen(rt);
-            let rescued = rescue_over(rt, given, disk, is_shown, output);
-            print_rescue(rt, file, rescued.note, rescued.report.as_ref());
+            let is_shown = Showing::Apart.is_seen(host.rt);
+            let rescued = rescue_over(host, given, disk, is_shown, output);
+            print_rescue(
+                &(host, host.rt.alloc()),
+                file,
+                rescued.note,
+                rescued.report.as_ref(),
+            );
             Ending::Noted(rescued.note)
         }
         Err(fault) => {
-            let ending = refuse(rt, file, fault);
-            print_refused(rt, ending);
+            let ending = refuse(host, file, fault);
+            print_refused(host, ending);
             ending
         }
     }

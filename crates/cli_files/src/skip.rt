@@ -14,7 +14,7 @@ ghost use Rattle.cli_files.specs.Opened.{IsUnopened, OverFile};
 use crate::files::{Files, How};
 use crate::refused::refuse;
 use bridge_skip::{Skipped, bridge_skip};
-use cli_parts::{Ending, Progress, Showing, Waiting, Watched, print_no_spool};
+use cli_parts::{Ending, Host, Progress, Showing, Waiting, Watched, print_no_spool};
 use edge_disk::Disk;
 use edge_file::Sharing;
 use edge_io::Sink;
@@ -22,7 +22,7 @@ use edge_io::Sink;
 // Skips the entry over the disk, which is watched meanwhile. Its reading may be shown. What was done is what `bridge_skip` does, and
 // nothing else.
 fn skip_over<D: Disk, K: Sink>(
-    rt: &HostRuntime,
+    host: Host<'_>,
     number: u64,
     disk: D,
     is_shown: bool,
@@ -35,8 +35,8 @@ fn skip_over<D: Disk, K: Sink>(
     ensures run { IsSkipRun number (disk_run D.tells D.moment disk result.disk) (output_run K.taken K.write_faults output.old output.new)
         result.note }
 {
-    let disk = Watched::new(disk, Progress::new(rt, is_shown), "FILE", Waiting::Nobody);
-    let Skipped { status, note, disk } = bridge_skip(rt.alloc(), number, disk, output);
+    let disk = Watched::new(disk, Progress::new(host, is_shown), "FILE", Waiting::Nobody);
+    let Skipped { status, note, disk } = bridge_skip(host.rt.alloc(), number, disk, output);
     Skipped {
         status,
         note,
@@ -47,7 +47,7 @@ fn skip_over<D: Disk, K: Sink>(
 /// Skips the entry of this number in `file`, which this program has alone meanwhile. One that can't be opened is a fault of the disk, or
 /// `InUse`, and standard error says why in a line of its own; one that is no spool is named there too.
 pub fn run_skip<F: Files, K: Sink>(
-    rt: &HostRuntime,
+    host: Host<'_>,
     files: &F,
     file: &str,
     number: u64,
@@ -65,11 +65,11 @@ pub fn run_skip<F: Files, K: Sink>(
     match files.open(file, How::Existing(Sharing::Exclusive)) {
         Ok(disk) => {
             // (it prints one line, and only after its reading)
-            let is_shown = Showing::Always.is_seen(rt);
-            let note = skip_over(rt, number, disk, is_shown, output).note;
-            print_no_spool(rt, file, note);
+            let is_shown = Showing::Always.is_seen(host.rt);
+            let note = skip_over(host, number, disk, is_shown, output).note;
+            print_no_spool(&host, file, note);
             Ending::Noted(note)
         }
-        Err(fault) => refuse(rt, file, fault),
+        Err(fault) => refuse(host, file, fault),
     }
 }

@@ -8,4 +8,5 @@ pub mod RunOptions
 pub mod Sizes
 pub mod SkipWords
 pub mod Tally
+pub mod TokenPlaces
 pub mod Backlog

@@ -48,7 +48,11 @@ fn print_answer(rt: &impl Print, arguments: &Arguments, question: Question) -> b
 
 /// Prints the page of help or the version on standard output, where the program is asked for one, and says how that ended: well, or with a
 /// write that failed, which standard error names. `None`: nothing is asked, and nothing was printed.
-pub fn answer(rt: &(impl AllocGlobal + Eprint + Print), arguments: &Arguments) -> Option<Ending>
+pub fn answer(
+    rt: &impl Print,
+    errors: &(impl AllocGlobal + Eprint),
+    arguments: &Arguments,
+) -> Option<Ending>
     ensures asked { IfSome result (λ ending. (question : Question) × asks (string_bytes arguments.now.file) arguments.now.words.items question) }
     ensures ended { IfSome result (λ ending. (note_in ending ≡ Fine) ⊎ (note_in ending ≡ WriteFault)) }
     ensures silent { IsNone result → asks_nothing (string_bytes arguments.now.file) arguments.now.words.items }
@@ -57,6 +61,6 @@ pub fn answer(rt: &(impl AllocGlobal + Eprint + Print), arguments: &Arguments) -
     if print_answer(rt, arguments, question) {
         return Some(Ending::Noted(Note::Fine));
     }
-    print_note(rt, Note::WriteFault);
+    print_note(errors, Note::WriteFault);
     Some(Ending::Noted(Note::WriteFault))
 }

@@ -12,6 +12,7 @@ ghost use Rattle.spool_log.specs.Opening.{IsRefusedAs};
 ghost use Rattle.notes.specs.declared.note.Note.TheVariants.{DiskFault, NoMemory};
 ghost use Rattle.cli_parts.specs.Ending.{note_in};
 
+use crate::Host;
 use crate::arguments::Arguments;
 use crate::health::Waiting;
 use crate::opening::Showing;
@@ -71,17 +72,17 @@ fn agrees(rt: &(impl AllocGlobal + Eprint + Input), file: &str, pending: u64) ->
 }
 
 // Asks about the spool on the disk, where it has entries that are pending.
-fn agrees_over<D: Disk + Drop>(rt: &HostRuntime, file: &str, disk: D) -> Result<(), Ending>
+fn agrees_over<D: Disk + Drop>(host: Host<'_>, file: &str, disk: D) -> Result<(), Ending>
     requires tears { LetsKeep D.tells D.moment D.may_tear D.may_release }
     ensures { IfErr result (λ ending. (note_in ending ≡ DiskFault) ⊎ (note_in ending ≡ NoMemory)) }
 {
     let Looked {
         pending,
         disk: _held,
-    } = look(rt.alloc(), disk);
+    } = look(host.rt.alloc(), disk);
     match pending {
-        Ok(pending) if pending > 0 && !agrees(rt, file, pending) => {
-            let _ = eprintln!(rt; "bridge: {file}: left as it is");
+        Ok(pending) if pending > 0 && !agrees(host.rt, file, pending) => {
+            let _ = eprintln!(host; "bridge: {file}: left as it is");
             Err(Ending::Unopened)
         }
         Err(RecoverFault::NoMemory) => Err(Ending::Noted(Note::NoMemory)),
@@ -95,9 +96,10 @@ fn agrees_over<D: Disk + Drop>(rt: &HostRuntime, file: &str, disk: D) -> Result<
 ///
 /// The error is how to end: `Unopened` where the answer is another one than `y` or `yes`, which FILE's line says, and with `NoMemory` where
 /// no memory was found to look into FILE. Where FILE can't be opened or read, or is no spool, nothing is asked.
-pub fn confirm(rt: &HostRuntime, arguments: &Arguments) -> Result<(), Ending>
+pub fn confirm(host: Host<'_>, arguments: &Arguments) -> Result<(), Ending>
     ensures { IfErr result (λ ending. (note_in ending ≡ DiskFault) ⊎ (note_in ending ≡ NoMemory)) }
 {
+    let rt = host.rt;
     if !rt.stdin().is_terminal() {
         return Ok(());
     }
@@ -106,9 +108,9 @@ pub fn confirm(rt: &HostRuntime, arguments: &Arguments) -> Result<(), Ending>
     };
     match FileDisk::open_locked(rt, &arguments.file, Sharing::Exclusive) {
         Ok(disk) if disk.len() == len => {
-            let progress = Progress::new(rt, Showing::Always.is_seen(rt));
+            let progress = Progress::new(host, Showing::Always.is_seen(rt));
             agrees_over(
-                rt,
+                host,
                 &arguments.file,
                 Watched::new(disk, progress, "FILE", Waiting::Nobody),
             )

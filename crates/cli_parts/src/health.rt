@@ -1,5 +1,5 @@
 //! Whether FILE, or the TARGET of a move, is well, for an operator who watches standard error.
-use crate::StandardError;
+use crate::Host;
 use edge_disk::DiskFault;
 use edge_file::Home;
 use edge_net::FileCounts;
@@ -61,25 +61,23 @@ impl Waiting {
     }
 }
 
-/// Where it goes how FILE is, beside the command that runs over it.
+/// Where it goes how FILE is, beside the lines on standard error.
 #[derive(Clone, Copy)]
 pub struct Told<'a> {
     /// Where calls are counted, and it is noted since when they fail.
     pub file: &'a FileCounts,
-    /// Where lines go.
-    pub errors: &'a StandardError,
 }
 
 /// What is said of a file on standard error: a line where a call of it fails, and one where it is well again. Not
 /// one for each call: while it is failing nothing more is said.
 #[derive(Drop)]
 pub(crate) struct HealthLines<'a> {
-    rt: &'a HostRuntime,
+    host: Host<'a>,
     // What the lines call the file.
     name: &'static str,
     waiting: Waiting,
     health: Health,
-    // Where calls are counted, and it is noted too since when they fail, and where lines go, if not straight to standard error.
+    // Where calls are counted, and it is noted too since when they fail.
     told: Option<Told<'a>>,
     // Where it stood as it was opened, as far as that is known.
     home: Option<Home>,
@@ -87,13 +85,9 @@ pub(crate) struct HealthLines<'a> {
 
 impl<'a> HealthLines<'a> {
     /// No call was made of the file that the lines call so.
-    pub(crate) fn new(
-        rt: &'a HostRuntime,
-        name: &'static str,
-        waiting: Waiting,
-    ) -> HealthLines<'a> {
+    pub(crate) fn new(host: Host<'a>, name: &'static str, waiting: Waiting) -> HealthLines<'a> {
         HealthLines {
-            rt,
+            host,
             name,
             waiting,
             health: Health::Well,
@@ -106,7 +100,7 @@ impl<'a> HealthLines<'a> {
     pub(crate) fn noting(self, told: Told<'a>, path: &str) -> HealthLines<'a> {
         HealthLines {
             told: Some(told),
-            home: Home::look(self.rt, path).ok(),
+            home: Home::look(self.host.rt, path).ok(),
             ..self
         }
     }
@@ -126,23 +120,20 @@ impl<'a> HealthLines<'a> {
         };
         match self.health {
             Health::Well => told.file.failing.is_well(),
-            Health::Unread { .. } | Health::Failing => told.file.failing.fails(self.rt),
+            Health::Unread { .. } | Health::Failing => told.file.failing.fails(self.host.rt),
         }
     }
 
     // Says a line, which names the file between these words and has the notice last. Nobody waits where a thread writes the lines.
     fn say(&self, before: &str, after: &str, notice: &str) {
         let name = self.name;
-        let _ = match self.told {
-            Some(told) => eprintln!(told.errors; "bridge: {before}{name}{after}{notice}"),
-            None => eprintln!(self.rt; "bridge: {before}{name}{after}{notice}"),
-        };
+        let _ = eprintln!(self.host; "bridge: {before}{name}{after}{notice}");
     }
 
     /// The time, where calls are counted and there is a clock.
     pub(crate) fn time(&self) -> Option<Duration> {
         match self.told {
-            Some(_) => self.rt.monotonic().ok(),
+            Some(_) => self.host.rt.monotonic().ok(),
             None => None,
         }
     }

@@ -57,4 +57,4 @@ pub use standard_error::{Host, StandardError};
 pub use starting::print_start;
 pub use status::{Ending, exit_code};
 pub use streams::hold_streams;
-pub use token_file::with_tokens;
+pub use token_file::{WithTokens, with_tokens};

@@ -1,6 +1,7 @@
 //! How far a command is, for a user who waits, and FILE as it is watched meanwhile.
 ghost use Rattle.std.specs.Prelude.{◌≡◌, None, false};
 
+use crate::Host;
 use crate::health::{Call, HealthLines, Told, Waiting};
 use crate::tally::Tally;
 use edge_disk::{Disk, DiskFault};
@@ -19,7 +20,7 @@ fn began(rt: &HostRuntime, is_shown: bool) -> Option<Instant>
 /// How far a command is: a line on standard error, once a second at most.
 #[derive(Drop)]
 pub struct Progress<'a> {
-    rt: &'a HostRuntime,
+    host: Host<'a>,
     // When the command began. Nothing is shown where there is none.
     began: Option<Instant>,
     // How many whole seconds had passed at the last line.
@@ -30,14 +31,14 @@ pub struct Progress<'a> {
 
 impl<'a> Progress<'a> {
     /// A command that begins, and has read nothing. It is shown where it is to be, and the clock can be read.
-    pub fn new(rt: &'a HostRuntime, is_shown: bool) -> Progress<'a>
+    pub fn new(host: Host<'a>, is_shown: bool) -> Progress<'a>
         ensures hidden { is_shown ≡ false → result.began ≡ None }
         ensures unread { result.tally ≡ None }
         ensures unshown { result.shown ≡ 0 }
     {
         Progress {
-            rt,
-            began: began(rt, is_shown),
+            host,
+            began: began(host.rt, is_shown),
             shown: 0,
             tally: None,
         }
@@ -46,7 +47,7 @@ impl<'a> Progress<'a> {
     // FILE has this length in bytes.
     fn begin(&mut self, len: u64) {
         if self.began.is_some() {
-            self.tally = Tally::new(self.rt.alloc(), len).ok();
+            self.tally = Tally::new(self.host.rt.alloc(), len).ok();
         }
     }
 
@@ -61,13 +62,13 @@ impl<'a> Progress<'a> {
         let Some(began) = self.began else {
             return;
         };
-        let Ok(passed) = began.elapsed(self.rt) else {
+        let Ok(passed) = began.elapsed(self.host.rt) else {
             return;
         };
         let seconds = passed.as_secs();
         if seconds > self.shown {
             self.shown = seconds;
-            let _ = eprintln!(self.rt; "bridge: {read} of {all} MiB of FILE read in {seconds} s");
+            let _ = eprintln!(self.host; "bridge: {read} of {all} MiB of FILE read in {seconds} s");
         }
     }
 }
@@ -93,7 +94,7 @@ impl<'a, D: Disk> Watched<'a, D> {
     ) -> Watched<'a, D>
         ensures { result.disk ≡ disk }
     {
-        let health = HealthLines::new(progress.rt, name, waiting);
+        let health = HealthLines::new(progress.host, name, waiting);
         let mut progress = progress;
         progress.begin(disk.len());
         Watched {

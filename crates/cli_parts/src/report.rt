@@ -178,15 +178,15 @@ pub fn print_beside_wrong_option(
     print_near_name(rt, arguments);
 }
 
-/// Says why the file of this path wasn't opened: that its folder is missing, or the fault.
-pub fn print_unopened(rt: &(impl Files + Eprint), path: &str, fault: OpenFault) {
+/// Says why the file of this path wasn't opened: that its folder is missing, or the fault. The folder is looked for in the files of `rt`.
+pub fn print_unopened(rt: &impl Files, errors: &impl Eprint, path: &str, fault: OpenFault) {
     if fault == OpenFault::NotFound
         && let Some(folder) = missing_folder(rt, path)
     {
-        let _ = eprintln!(rt; "bridge: {path}: no folder {folder}");
+        let _ = eprintln!(errors; "bridge: {path}: no folder {folder}");
         return;
     }
-    let _ = eprintln!(rt; "bridge: {path}: {fault}");
+    let _ = eprintln!(errors; "bridge: {path}: {fault}");
 }
 
 /// Names the file of this path, where the note says of what stands in it that it is no spool.

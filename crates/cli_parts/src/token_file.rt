@@ -3,10 +3,12 @@
 //! processes has none of them. No token is printed.
 ghost use Rattle.std.specs.Prelude.{◌≡◌, ◌<◌, IfOk, IfSome, length};
 
+use crate::Host;
 use crate::report::{print_line, print_note};
 use crate::token_lines::TokenLines;
 use crate::token_words::{FileOption, OUT_TOKEN, TOKENS, file_word_in, put_text};
 use bridge_words::{WordsFault, wrong_words};
+use edge_net::TokenFile;
 use notes::Note;
 use std::alloc::{AllocError, Global};
 use std::fs::{self, OpenOptions};
@@ -44,22 +46,23 @@ impl From<AllocError> for Refused {
 
 // The bytes of a file, or of one that has more than are taken one byte too many. What is no plain file isn't opened, since to open a pipe
 // would wait for whoever writes to it.
-fn bytes_of(rt: &HostRuntime, name: &str) -> Result<Vec<u8>, Refused> {
-    match read_plain(rt, name) {
+fn bytes_of(host: Host<'_>, name: &str) -> Result<Vec<u8>, Refused> {
+    match read_plain(host, name) {
         Ok(Some(bytes)) => Ok(bytes),
         Ok(None) => {
-            let _ = eprintln!(rt; "bridge: {name}: no plain file");
+            let _ = eprintln!(host; "bridge: {name}: no plain file");
             Err(Refused::Unread)
         }
         Err(error) => {
-            let _ = eprintln!(rt; "bridge: {name}: {error}");
+            let _ = eprintln!(host; "bridge: {name}: {error}");
             Err(Refused::Unread)
         }
     }
 }
 
 // The bytes of a plain file, and none of what is neither that nor a folder. It is said where others than its owner may read or write it.
-fn read_plain(rt: &HostRuntime, name: &str) -> io::Result<Option<Vec<u8>>> {
+fn read_plain(host: Host<'_>, name: &str) -> io::Result<Option<Vec<u8>>> {
+    let rt = host.rt;
     let metadata = fs::metadata(rt, name)?;
     if !metadata.is_file() && !metadata.is_dir() {
         return Ok(None);
@@ -71,28 +74,28 @@ fn read_plain(rt: &HostRuntime, name: &str) -> io::Result<Option<Vec<u8>>> {
     let mut bytes = Vec::new(rt.alloc());
     file.take(MOST_BYTES + 1).read_to_end(&mut bytes)?;
     if mode & OTHERS_READ != 0 {
-        let _ = eprintln!(rt; "bridge: {name}: others than its owner may read it");
+        let _ = eprintln!(host; "bridge: {name}: others than its owner may read it");
     }
     if mode & OTHERS_WRITE != 0 {
-        let _ = eprintln!(rt; "bridge: {name}: others than its owner may write it");
+        let _ = eprintln!(host; "bridge: {name}: others than its owner may write it");
     }
     Ok(Some(bytes))
 }
 
 // The tokens in the file of this name, with what is wrong with it said on standard error.
-fn tokens_in(rt: &HostRuntime, name: &str) -> Result<TokenLines, Refused> {
-    let bytes = bytes_of(rt, name)?;
+fn tokens_in(host: Host<'_>, name: &str) -> Result<TokenLines, Refused> {
+    let bytes = bytes_of(host, name)?;
     if bytes.len() as u64 > MOST_BYTES {
-        let _ = eprintln!(rt; "bridge: {name}: more than {MOST_BYTES} bytes");
+        let _ = eprintln!(host; "bridge: {name}: more than {MOST_BYTES} bytes");
         return Err(Refused::Wrong);
     }
     let Ok(text) = str::from_utf8(&bytes) else {
-        let _ = eprintln!(rt; "bridge: {name}: no UTF-8");
+        let _ = eprintln!(host; "bridge: {name}: no UTF-8");
         return Err(Refused::Wrong);
     };
-    let lines = TokenLines::of(rt.alloc(), text)?;
+    let lines = TokenLines::of(host.rt.alloc(), text)?;
     for number in &lines.wrong {
-        let _ = eprintln!(rt; "bridge: {name}: line {number}: neither a GUID nor a GUID and ack");
+        let _ = eprintln!(host; "bridge: {name}: line {number}: neither a GUID nor a GUID and ack");
     }
     if lines.wrong.is_empty() {
         Ok(lines)
@@ -101,27 +104,29 @@ fn tokens_in(rt: &HostRuntime, name: &str) -> Result<TokenLines, Refused> {
     }
 }
 
-// The list in the file of this name that `--tokens` has.
-fn list_in(rt: &HostRuntime, name: &str) -> Result<String, Refused> {
+// The lines of the file of this name that `--tokens` has.
+fn list_in(host: Host<'_>, name: &str) -> Result<TokenLines, Refused> {
     if name == "-" {
-        print_line(rt, "--tokens: - is no FILE, and standard input isn't read");
+        print_line(
+            &host,
+            "--tokens: - is no FILE, and standard input isn't read",
+        );
         return Err(Refused::Wrong);
     }
-    let lines = tokens_in(rt, name)?;
-    Ok(lines.list)
+    tokens_in(host, name)
 }
 
 // The one token in the file of this name that `--out-token` has.
-fn one_in(rt: &HostRuntime, name: &str) -> Result<String, Refused> {
-    let lines = tokens_in(rt, name)?;
+fn one_in(host: Host<'_>, name: &str) -> Result<String, Refused> {
+    let lines = tokens_in(host, name)?;
     let list = lines.list.as_str();
     match list.strip_suffix("\n") {
         Some(token) if !token.contains('\n') && !token.contains(' ') => {
-            let token = String::from_str(rt.alloc(), token)?;
+            let token = String::from_str(host.rt.alloc(), token)?;
             Ok(token)
         }
         _ => {
-            let _ = eprintln!(rt; "bridge: {name}: one GUID is wanted, and nothing else");
+            let _ = eprintln!(host; "bridge: {name}: one GUID is wanted, and nothing else");
             Err(Refused::Wrong)
         }
     }
@@ -155,27 +160,49 @@ fn take_name(
     Ok(Some(Named { at, kept, name }))
 }
 
-// Puts what the files hold that words name into their names' places, unless they are no command whatever these have: then none is read.
-fn put_files(rt: &HostRuntime, words: &mut [String]) -> Result<(), Refused> {
-    let alloc = rt.alloc();
+// Puts the list of `--tokens` into the place of its file's name, and says where each token of it stands.
+fn put_list(host: Host<'_>, words: &mut [String], list: Named) -> Result<TokenFile, Refused>
+    requires within { list.at < length words.old }
+    ensures count { length words.new ≡ length words.old }
+{
+    let alloc = host.rt.alloc();
+    let Named { at, kept, name } = list;
+    let lines = list_in(host, name.as_str())?;
+    put_text(alloc, words, at, kept, lines.list.as_str())?;
+    if wrong_words(alloc, words)? == Some(WordsFault::Tokens) {
+        let _ = eprintln!(host; "bridge: {name}: no token, or more than 1000");
+        return Err(Refused::Wrong);
+    }
+    let places = lines.places;
+    Ok(TokenFile { name, places })
+}
+
+// Puts what the files hold that words name into their names' places, unless they are no command whatever these have: then none is read. It
+// gives the file of `--tokens`, where one was read.
+fn put_files(host: Host<'_>, words: &mut [String]) -> Result<Option<TokenFile>, Refused> {
+    let alloc = host.rt.alloc();
     let list = take_name(alloc, words, &TOKENS)?;
     let out = take_name(alloc, words, &OUT_TOKEN)?;
     if (list.is_none() && out.is_none()) || wrong_words(alloc, words)?.is_some() {
-        return Ok(());
+        return Ok(None);
     }
-    if let Some(Named { at, kept, name }) = list {
-        let text = list_in(rt, name.as_str())?;
-        put_text(alloc, words, at, kept, text.as_str())?;
-        if wrong_words(alloc, words)? == Some(WordsFault::Tokens) {
-            let _ = eprintln!(rt; "bridge: {name}: no token, or more than 1000");
-            return Err(Refused::Wrong);
-        }
-    }
+    let file = match list {
+        Some(list) => Some(put_list(host, words, list)?),
+        None => None,
+    };
     if let Some(Named { at, kept, name }) = out {
-        let text = one_in(rt, name.as_str())?;
+        let text = one_in(host, name.as_str())?;
         put_text(alloc, words, at, kept, text.as_str())?;
     }
-    Ok(())
+    Ok(file)
+}
+
+/// Words of which none names a file of tokens.
+#[derive(Drop)]
+pub struct WithTokens {
+    pub words: Vec<String>,
+    /// The file of `--tokens`, with the line of each token, where there was one.
+    pub file: Option<TokenFile>,
 }
 
 /// The words with what files hold in the places of their names, where they are those of a server with `--tokens FILE`, or of a command with
@@ -186,13 +213,13 @@ fn put_files(rt: &HostRuntime, words: &mut [String]) -> Result<(), Refused> {
 ///
 /// The error is the note with which the run ends then. Standard error has said why: each line that is wrong by its number, or why the file
 /// couldn't be read. It is warned there where others than its owner may read or write it.
-pub fn with_tokens(rt: &HostRuntime, mut words: Vec<String>) -> Result<Vec<String>, Note> {
-    match put_files(rt, &mut words) {
-        Ok(()) => Ok(words),
+pub fn with_tokens(host: Host<'_>, mut words: Vec<String>) -> Result<WithTokens, Note> {
+    match put_files(host, &mut words) {
+        Ok(file) => Ok(WithTokens { words, file }),
         Err(Refused::Wrong) => Err(Note::Usage),
         Err(Refused::Unread) => Err(Note::DiskFault),
         Err(Refused::NoMemory) => {
-            print_note(rt, Note::NoMemory);
+            print_note(&(host, host.rt.alloc()), Note::NoMemory);
             Err(Note::NoMemory)
         }
     }

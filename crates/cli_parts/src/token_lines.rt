@@ -1,12 +1,19 @@
 //! The lines of a file of tokens, as `--tokens` has them.
+ghost use Rattle.std.specs.Prelude.{IfOk};
+ghost use Rattle.cli_parts.specs.TokenPlaces.{AddsOf};
+
 use bridge_words::is_token;
+use edge_net::TokenPlace;
 use std::alloc::{AllocError, Global};
+use uuid::Uuid;
 
 /// What stands in a file of tokens.
 #[derive(Drop)]
 pub(crate) struct TokenLines {
     /// The lines that have a token, each ended by LF.
     pub list: String,
+    /// Where each of them stands.
+    pub places: Vec<TokenPlace>,
     /// The numbers of the lines that have something else, the first of the file being 1.
     pub wrong: Vec<usize>,
 }
@@ -23,18 +30,28 @@ fn spaced(alloc: Global, line: &str) -> Result<String, AllocError> {
     Ok(spaced)
 }
 
+// The number of the GUID that a line of a token begins with.
+fn guid_in(line: &str) -> Option<u128> {
+    let guid = line.strip_suffix(" ack").unwrap_or(line);
+    Some(Uuid::try_parse(guid).ok()?.as_u128())
+}
+
 impl TokenLines {
     // Reads one more line, of this number. One that is blank or begins with `#` has nothing.
-    fn add(&mut self, alloc: Global, number: usize, line: &str) -> Result<(), AllocError> {
+    fn add(&mut self, alloc: Global, number: usize, line: &str) -> Result<(), AllocError>
+        ensures place { IfOk result (λ _. AddsOf number self.old.places.items self.new.places.items) }
+    {
         let line = spaced(alloc, line)?;
         if line.is_empty() || line.as_str().starts_with('#') {
             return Ok(());
         }
-        if is_token(line.as_str()) {
-            self.list.push_str(line.as_str())?;
-            self.list.push_str("\n")?;
-        } else {
-            self.wrong.push(number)?;
+        match guid_in(line.as_str()) {
+            Some(guid) if is_token(line.as_str()) => {
+                self.list.push_str(line.as_str())?;
+                self.list.push_str("\n")?;
+                self.places.push(TokenPlace { guid, line: number })?;
+            }
+            _ => self.wrong.push(number)?,
         }
         Ok(())
     }
@@ -43,6 +60,7 @@ impl TokenLines {
     pub(crate) fn of(alloc: Global, text: &str) -> Result<TokenLines, AllocError> {
         let mut lines = TokenLines {
             list: String::new(alloc),
+            places: Vec::new(alloc),
             wrong: Vec::new(alloc),
         };
         for (before, line) in text.lines().enumerate() {

@@ -1,4 +1,5 @@
 pub mod Answer
+pub mod Authorized
 pub mod Budget
 pub mod Ending
 pub mod Fullness
@@ -10,4 +11,5 @@ pub mod Standstill
 pub mod TcpDoor
 pub mod TcpLink
 pub mod TcpNet
+pub mod TokenPlaces
 pub mod Trouble

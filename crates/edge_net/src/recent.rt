@@ -62,19 +62,37 @@ fn same_trouble(one: Option<Trouble>, other: Option<Trouble>) -> bool
     one == other
 }
 
+// Whether it is the same line of a file, or neither is of one.
+fn same_line(one: Option<usize>, other: Option<usize>) -> bool
+    ensures { IsTrue result ↔ (one ≡ other) }
+{
+    one == other
+}
+
 // Whether the same befell both.
 fn same_matter(one: Matter, other: Matter) -> bool
     ensures { IsTrue result ↔ (one ≡ other) }
 {
     match (one, other) {
         (
-            Matter::RequestRefused { code, reason, end },
+            Matter::RequestRefused {
+                code,
+                reason,
+                line,
+                end,
+            },
             Matter::RequestRefused {
                 code: other_code,
                 reason: other_reason,
+                line: other_line,
                 end: other_end,
             },
-        ) => code == other_code && same_reason(reason, other_reason) && same_end(end, other_end),
+        ) => {
+            code == other_code
+                && same_reason(reason, other_reason)
+                && same_line(line, other_line)
+                && same_end(end, other_end)
+        }
         (Matter::FrameRefused { code }, Matter::FrameRefused { code: other_code }) => {
             code == other_code
         }

@@ -6,7 +6,10 @@ use crate::counts::Counts;
 use crate::hindrance::Hindrance;
 use crate::page::{pending_of, room_of};
 use crate::since::millis;
-use crate::{FileCounts, Illness, Line, Matter, Receiver, Recent, Since, Standstill, Topic};
+use crate::token_places::{Standing, line_of};
+use crate::{
+    FileCounts, Illness, Line, Matter, Receiver, Recent, Since, Standstill, TokenFile, Topic,
+};
 use edge_io::{HeldUp, SpoolNumbers};
 use std::net::SocketAddr;
 use std::rt::Clock;
@@ -26,6 +29,8 @@ pub struct Reports {
     is_verbose: bool,
     // The version that runs, or nothing.
     version: &'static str,
+    // The file that the tokens of senders were taken from.
+    tokens: Option<TokenFile>,
     senders: Mutex<Recent>,
     receiver: Mutex<Receiver>,
     standstill: Mutex<Standstill>,
@@ -101,6 +106,7 @@ impl Reports {
             is_quiet,
             is_verbose: false,
             version: "",
+            tokens: None,
             senders: Mutex::new(Recent::new()),
             receiver: Mutex::new(Receiver::new()),
             standstill: Mutex::new(Standstill::new()),
@@ -134,6 +140,27 @@ impl Reports {
         ensures verbose { result.is_verbose ≡ is_verbose }
     {
         Reports { is_verbose, ..self }
+    }
+
+    /// The same, where the tokens of senders were taken from this file, if they were taken from one. A line about a request names the line
+    /// of it in which the request's token stands, where that is known.
+    pub fn with_tokens(self, tokens: Option<TokenFile>) -> Reports
+        ensures { result.is_quiet ≡ self.is_quiet }
+    {
+        Reports { tokens, ..self }
+    }
+
+    /// Whether lines name those of a file of tokens.
+    pub(crate) fn has_tokens(&self) -> bool {
+        !self.is_quiet && self.tokens.is_some()
+    }
+
+    /// The line in which this token stands, where there is one and it stands in a file.
+    pub(crate) fn line_of(&self, token: Option<u128>) -> Option<usize> {
+        match (&self.tokens, token) {
+            (Some(file), Some(guid)) => line_of(&file.places, guid),
+            _ => None,
+        }
     }
 
     /// The version that runs.
@@ -229,7 +256,8 @@ impl Reports {
             matter: matter.kind(),
         };
         if let Some(line) = self.line_about(rt, topic) {
-            let _ = eprintln!(rt; "bridge: sender {peer}: {matter}{line}");
+            let standing = Standing::of(&self.tokens, matter);
+            let _ = eprintln!(rt; "bridge: sender {peer}: {matter}{standing}{line}");
         }
     }
 

@@ -11,10 +11,11 @@ use std::net::IpAddr;
 #[derive(Clone, Copy, PartialEq, Eq)]
 pub enum Matter {
     /// A request of HTTP was answered with this status, which says that it was refused, and with the number of a reason, where the answer
-    /// has one. Where the connection ended by that, this is how.
+    /// has one. Where the line is known in which its token stands, that is there, and where the connection ended by it, how.
     RequestRefused {
         code: u16,
         reason: Option<u16>,
+        line: Option<usize>,
         end: Option<Talk>,
     },
     /// A frame of RELP was answered with this code, which says that it was refused.
@@ -38,10 +39,12 @@ impl Matter {
             Matter::RequestRefused {
                 code,
                 reason,
+                line,
                 end: Some(talk),
             } => Matter::RequestRefused {
                 code,
                 reason,
+                line,
                 end: Some(kind_of(talk)),
             },
             Matter::Ended {
@@ -86,6 +89,7 @@ impl fmt::Display for Matter {
                 code,
                 reason: Some(number),
                 end,
+                ..
             } => {
                 let reason = Reason { number, end };
                 write!(

@@ -1,5 +1,6 @@
 //! What is seen of a connection, for the lines about it.
 use crate::answer::{closes, reason_in};
+use crate::authorized::Authorized;
 use crate::ending::explains;
 use crate::trouble::Way;
 use crate::{Answer, Illness, Matter, Reports, Trouble};
@@ -24,6 +25,8 @@ pub(crate) struct Peer {
 struct Refused {
     code: u16,
     reason: Option<u16>,
+    // The line of a file in which the request's token stands.
+    line: Option<usize>,
 }
 
 /// What is seen of a connection, and where it is said. It changes nothing of the connection.
@@ -36,6 +39,8 @@ pub(crate) struct Watch<'a, R> {
     // How long a call waits for the peer.
     wait: Duration,
     has_read: bool,
+    // Which token the requests have that came.
+    authorized: Authorized,
     // A reply of HTTP came that refuses nothing.
     has_reply: bool,
     // A line was asked for about it, or its end is no news after what was seen.
@@ -60,6 +65,7 @@ impl<'a, R> Watch<'a, R> {
             peer,
             wait,
             has_read: false,
+            authorized: Authorized::new(),
             has_reply: false,
             is_said: false,
             last: None,
@@ -108,6 +114,9 @@ impl<R: Clock + Eprint> Watch<'_, R> {
             self.note_read();
         }
         let Some(place) = place else {
+            if self.reports.has_tokens() && !bytes.is_empty() {
+                self.authorized = self.authorized.after(bytes);
+            }
             return self.reports.counts().received.add_many(bytes.len() as u64);
         };
         if bytes.is_empty() {
@@ -144,13 +153,15 @@ impl<R: Clock + Eprint> Watch<'_, R> {
         let matter = match answer {
             Answer::Reply { .. } => {
                 let reason = reason_in(piece);
+                let line = self.reports.line_of(self.authorized.refused(reason));
                 if closes(piece) {
-                    self.last = Some(Refused { code, reason });
+                    self.last = Some(Refused { code, reason, line });
                     return;
                 }
                 Matter::RequestRefused {
                     code,
                     reason,
+                    line,
                     end: None,
                 }
             }
@@ -180,9 +191,10 @@ impl<R: Clock + Eprint> Watch<'_, R> {
         };
         let is_unused = !self.has_read && self.trouble == Some(Trouble::Reset);
         let matter = match self.last {
-            Some(Refused { code, reason }) => Matter::RequestRefused {
+            Some(Refused { code, reason, line }) => Matter::RequestRefused {
                 code,
                 reason,
+                line,
                 end: if explains(talk) { Some(talk) } else { None },
             },
             None if status == 0 || self.is_said || is_unused => return,

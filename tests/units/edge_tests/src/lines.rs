@@ -12,6 +12,7 @@ fn topic(peer: u8, code: u16) -> Topic {
         matter: Matter::RequestRefused {
             code,
             reason: None,
+            line: None,
             end: None,
         },
     }

@@ -2,7 +2,7 @@
 use crate::sockets::free_place;
 use crate::staged::Staged;
 use edge_io::{Door, HeldUp, Net, Pause, Proto, Sink, Source};
-use edge_net::{Reports, TcpDoor, TcpLink, TcpNet, Waits};
+use edge_net::{Reports, TcpDoor, TcpLink, TcpNet, TokenFile, TokenPlace, Waits};
 use event_form::{Talk, Why};
 use std::alloc::Global;
 use std::process::Abort;
@@ -187,6 +187,134 @@ const LAST_REPLIES: [(&str, Talk, u8, &str); 6] = [
         Talk::Truncated { at: 4 },
         75,
         "503",
+    ),
+];
+
+// What a sender writes, piece by piece, the reply by which it is refused, and what is said of the token's line in the file `tokens`: the first
+// token stands in line 3, the second one in lines 5 and 7.
+const TOKEN_LINES: [(&[&str], &str, &str); 16] = [
+    (
+        &["POST / HTTP/1.1\r\nAuthorization: Splunk 11111111-2222-3333-4444-555555555555\r\n\r\n"],
+        "400 No\r\n\r\n{\"code\":14}",
+        "400, code 14: its token has no ack ids; it stands in line 3 of tokens",
+    ),
+    // the first of two lines, and another spelling
+    (
+        &[
+            "POST / HTTP/1.1\r\nAuthorization: sPLUNK AAAAAAAA222233334444555555555555\r\nHost: x\r\n\r\n",
+        ],
+        "400 No\r\n\r\n{\"code\":14}",
+        "400, code 14: its token has no ack ids; it stands in line 5 of tokens",
+    ),
+    // the same one again, after one without
+    (
+        &[
+            "POST / HTTP/1.1\r\n\r\n",
+            "POST / HTTP/1.1\r\nAuthorization: Splunk 11111111-2222-3333-4444-555555555555\r\nContent-Length: 2\r\n\r\n{}",
+            "POST / HTTP/1.1\r\nAuthorization: Splunk 11111111-2222-3333-4444-555555555555\r\nContent-Length: 0\r\n\r\n",
+        ],
+        "400 No\r\n\r\n{\"code\":14}",
+        "400, code 14: its token has no ack ids; it stands in line 3 of tokens",
+    ),
+    // a body has one, in the piece of its head and in another
+    (
+        &[
+            "POST / HTTP/1.1\r\nAuthorization: Splunk 11111111-2222-3333-4444-555555555555\r\nContent-Length: 75\r\n\r\nPOST / HTTP/1.1\r\nAuthorization: Splunk AAAAAAAA222233334444555555555555\r\n\r\n",
+        ],
+        "400 No\r\n\r\n{\"code\":14}",
+        "400, code 14: its token has no ack ids; it stands in line 3 of tokens",
+    ),
+    (
+        &[
+            "POST / HTTP/1.1\r\nAuthorization: Splunk 11111111-2222-3333-4444-555555555555\r\nContent-Length: 77\r\n\r\n",
+            "POST / HTTP/1.1\r\nAuthorization: Splunk AAAAAAAA222233334444555555555555\r\n\r\n",
+            "{}",
+        ],
+        "400 No\r\n\r\n{\"code\":14}",
+        "400, code 14: its token has no ack ids; it stands in line 3 of tokens",
+    ),
+    // which ends its connection
+    (
+        &["POST / HTTP/1.1\r\nAuthorization: Splunk 11111111-2222-3333-4444-555555555555\r\n\r\n"],
+        "400 No\r\nConnection: close\r\n\r\n{\"code\":14}",
+        "400, code 14: its token has no ack ids; it stands in line 3 of tokens",
+    ),
+    // another reason
+    (
+        &["POST / HTTP/1.1\r\nAuthorization: Splunk 11111111-2222-3333-4444-555555555555\r\n\r\n"],
+        "403 No\r\n\r\n{\"code\":4}",
+        "403, code 4: its token isn't known",
+    ),
+    // it stands in no line
+    (
+        &["POST / HTTP/1.1\r\nAuthorization: Splunk 99999999-2222-3333-4444-555555555555\r\n\r\n"],
+        "400 No\r\n\r\n{\"code\":14}",
+        "400, code 14: its token has no ack ids",
+    ),
+    // two of them, in two pieces and in one
+    (
+        &[
+            "POST / HTTP/1.1\r\nAuthorization: Splunk 11111111-2222-3333-4444-555555555555\r\n\r\n",
+            "POST / HTTP/1.1\r\nAuthorization: Splunk AAAAAAAA222233334444555555555555\r\n\r\n",
+        ],
+        "400 No\r\n\r\n{\"code\":14}",
+        "400, code 14: its token has no ack ids",
+    ),
+    (
+        &[
+            "POST / HTTP/1.1\r\nAuthorization: Splunk 11111111-2222-3333-4444-555555555555\r\n\r\nPOST / HTTP/1.1\r\nAuthorization: Splunk AAAAAAAA222233334444555555555555\r\n\r\n",
+        ],
+        "400 No\r\n\r\n{\"code\":14}",
+        "400, code 14: its token has no ack ids",
+    ),
+    // a head in two pieces
+    (
+        &[
+            "POST / HTTP/1.1\r\nAuthorization",
+            ": Splunk 11111111-2222-3333-4444-555555555555\r\n\r\n",
+        ],
+        "400 No\r\n\r\n{\"code\":14}",
+        "400, code 14: its token has no ack ids",
+    ),
+    // after a head in two pieces
+    (
+        &[
+            "POST / HTTP/1.1\r\nAuthorization: Splunk A",
+            "AAAAAAA222233334444555555555555\r\n\r\n",
+            "POST / HTTP/1.1\r\nAuthorization: Splunk 11111111-2222-3333-4444-555555555555\r\n\r\n",
+        ],
+        "400 No\r\n\r\n{\"code\":14}",
+        "400, code 14: its token has no ack ids",
+    ),
+    // a body that ends in the piece of the next request
+    (
+        &[
+            "POST / HTTP/1.1\r\nAuthorization: Splunk 11111111-2222-3333-4444-555555555555\r\nContent-Length: 2\r\n\r\n",
+            "{}POST / HTTP/1.1\r\nAuthorization: Splunk AAAAAAAA222233334444555555555555\r\n\r\n",
+        ],
+        "400 No\r\n\r\n{\"code\":14}",
+        "400, code 14: its token has no ack ids",
+    ),
+    // a length that is said twice, and none that is said
+    (
+        &[
+            "POST / HTTP/1.1\r\nAuthorization: Splunk 11111111-2222-3333-4444-555555555555\r\nContent-Length: 0\r\nContent-Length: 2\r\n\r\n",
+        ],
+        "400 No\r\n\r\n{\"code\":14}",
+        "400, code 14: its token has no ack ids",
+    ),
+    (
+        &[
+            "POST / HTTP/1.1\r\nAuthorization: Splunk 11111111-2222-3333-4444-555555555555\r\nTransfer-Encoding: chunked\r\n\r\n",
+        ],
+        "400 No\r\n\r\n{\"code\":14}",
+        "400, code 14: its token has no ack ids",
+    ),
+    // no GUID
+    (
+        &["POST / HTTP/1.1\r\nAuthorization: Splunk A\r\n\r\n"],
+        "400 No\r\n\r\n{\"code\":14}",
+        "400, code 14: its token has no ack ids",
     ),
 ];
 
@@ -614,6 +742,47 @@ fn refusals_are_said_by_their_codes(
     assert_silence(rt, staged);
 }
 
+// The file of the tokens that the rows have.
+fn tokens(rt: &impl Abort, alloc: Global) -> TokenFile {
+    let (first, second) = (
+        0x1111_1111_2222_3333_4444_5555_5555_5555,
+        0xaaaa_aaaa_2222_3333_4444_5555_5555_5555,
+    );
+    let places = [(first, 3), (second, 5), (second, 7)];
+    let places = places.map(|(guid, line)| TokenPlace { guid, line });
+    TokenFile {
+        name: String::from_str(alloc, "tokens").expect(rt, "memory"),
+        places: Vec::from_array(alloc, places).expect(rt, "memory"),
+    }
+}
+
+// The line in which a token stands is said of a request that is refused for it, where the token is known for sure.
+fn lines_of_tokens_are_said(
+    rt: &impl Abort,
+    alloc: Global,
+    staged: &Staged<'_>,
+    net: &mut StagedNet<'_, '_>,
+    place: &str,
+) {
+    let mut door = bound(rt, staged, net, place);
+    for (pieces, reply, words) in TOKEN_LINES {
+        staged.pass(MINUTE);
+        let (mut near, mut far) = pair(rt, net, &mut door, place);
+        for piece in pieces {
+            let mut buf = [0u8; 512];
+            assert!(rt; near.write(piece.as_bytes()) == Ok(piece.len()));
+            assert!(rt; far.read(&mut buf) == Ok(piece.len()));
+        }
+        let text = format!(in alloc; "HTTP/1.1 {reply}").expect(rt, "memory");
+        assert!(rt; far.write(text.as_bytes()) == Ok(text.len()));
+        drop(near);
+        let ended = door.give_back(far, Proto::Hec, 0, 0, Talk::Ended);
+        assert!(rt; ended.is_ok());
+        let line = format!(in alloc; ": a request was refused with {words}");
+        assert_sender(rt, staged, line.expect(rt, "memory").as_str());
+    }
+}
+
 // The number of each connection is said at its first bytes, where that is asked for.
 fn connections_are_numbered(
     rt: &impl Abort,
@@ -688,6 +857,9 @@ fn senders_are_said(rt: &impl Abort, alloc: Global, host: &HostRuntime, staged: 
     let reports = Reports::new();
     let mut net = TcpNet::with_waits(alloc, staged, &reports, waits());
     last_refusals_are_said_with_the_end(rt, alloc, staged, &mut net, &free_place(rt, host));
+    let reports = Reports::new().with_tokens(Some(tokens(rt, alloc)));
+    let mut net = TcpNet::with_waits(alloc, staged, &reports, waits());
+    lines_of_tokens_are_said(rt, alloc, staged, &mut net, &free_place(rt, host));
     let reports = Reports::new().with_verbose(true);
     let mut net = TcpNet::with_waits(alloc, staged, &reports, waits());
     connections_are_numbered(rt, staged, &mut net, &free_place(rt, host));
