@@ -10,6 +10,7 @@ use crate::limits::SIGNATURE;
 use std::net::{IpAddr, Ipv4Addr, Ipv6Addr};
 
 /// Which addresses a block has that was sent for another node, by its family.
+#[tactic(auto, unfolding(crate::specs::Block::family_kind))]
 fn family_kind(family: u8) -> Option<Kind>
     ensures { result ≡ family_kind family }
 {
@@ -22,6 +23,7 @@ fn family_kind(family: u8) -> Option<Kind>
 }
 
 /// Which addresses a block has, by its command and its family.
+#[tactic(auto, unfolding(crate::specs::Block::kind_of))]
 fn kind_of(command: u8, family: u8) -> Option<Kind>
     ensures { result ≡ kind_of command family }
 {
