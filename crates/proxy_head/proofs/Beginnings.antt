@@ -5,7 +5,7 @@ use Rattle.std.proofs.lemmas.Bool.{cases_lt}
 use Rattle.std.specs.Net.Addr.{HasPrefix}
 use Rattle.proxy_head.specs.declared.limits.TheConstants.{LINE}
 use Rattle.proxy_head.specs.declared.fault.HeadWhy.{HeadWhy}
-use Rattle.proxy_head.specs.Head.{HasFrame, IsBeginning, IsNone, BreaksAt, IsReason}
+use Rattle.proxy_head.specs.Head.{HasFrame, IsBeginning, BeginsNothing, BreaksAt, IsReason}
 use Rattle.proxy_head.proofs.Cuts.{frame_cut, frame_one, frame_fits}
 
 -- a front of a beginning is one
@@ -59,7 +59,7 @@ break_cut bytes more at h =
     record {
       inside = omega (arith, h.inside, length-append bytes more);
       before = subst IsBeginning (sym (take-append-le at bytes more (omega (arith, l)))) h.before;
-      broken = subst IsNone (sym (take-append-le (at + 1) bytes more l)) h.broken;
+      broken = subst BeginsNothing (sym (take-append-le (at + 1) bytes more l)) h.broken;
     }
 
 pub reason_one : (before : List ℕ) (at : ℕ) (one other : HeadWhy) → IsReason before at one → IsReason before at other → one ≡ other

@@ -9,7 +9,7 @@ use Rattle.proxy_head.specs.declared.head.Kind.{Kind}
 use Rattle.proxy_head.specs.declared.head.Kind.TheVariants.{Ipv4, Ipv6, Skipped}
 use Rattle.proxy_head.specs.Line.{fault_of}
 use Rattle.proxy_head.specs.Block.{HasBlock, kind_of, family_kind, least_of, number_at}
-use Rattle.proxy_head.specs.Head.{HasFrame, IsBeginning, IsNone, BreaksAt, IsReason, IsFault, reason_at}
+use Rattle.proxy_head.specs.Head.{HasFrame, IsBeginning, BeginsNothing, BreaksAt, IsReason, IsFault, reason_at}
 use Rattle.proxy_head.proofs.Cuts.{cut_index, prefix_cut, prefix_take, not_both}
 
 -- LOCAL ignores the family
@@ -117,7 +117,7 @@ block_breaks : (bytes : List ℕ) (at : ℕ) → 12 ≤ at → at < length bytes
 block_breaks bytes at late inside h before never =
     let here = prefix_take bytes SIGNATURE at late h in
     let next : (more : List ℕ) → HasPrefix (take (at + 1) bytes ++ more) SIGNATURE = λ more. prefix_cut (take (at + 1) bytes) more SIGNATURE (prefix_take bytes SIGNATURE (at + 1) (omega (arith, late)) h) in
-    let broken : IsNone (take (at + 1) bytes) = λ more len f. elim f [ inl p ↦ not_both (take (at + 1) bytes ++ more) p.1.starts (next more) | inr p ↦ never more p.0 len p.1 ] in
+    let broken : BeginsNothing (take (at + 1) bytes) = λ more len f. elim f [ inl p ↦ not_both (take (at + 1) bytes ++ more) p.1.starts (next more) | inr p ↦ never more p.0 len p.1 ] in
     inl (record { inside = inside; before = before; broken = broken }, inr ((λ line. not_both (take at bytes) line here), refl))
 
 -- the 13th byte is no command

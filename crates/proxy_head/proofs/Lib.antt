@@ -4,4 +4,5 @@ pub mod LineLaws
 pub mod BlockLaws
 pub mod SignLaws
 pub mod TellLaws
+pub mod WordLaws
 pub mod ReadLaws

@@ -8,7 +8,7 @@ use Rattle.proxy_head.specs.declared.fault.HeadWhy.TheVariants.{TooLong}
 use Rattle.proxy_head.specs.declared.head.Kind.{Kind}
 use Rattle.proxy_head.specs.Line.{EndsAt, HasLine, NoEnd, fault_of}
 use Rattle.proxy_head.specs.Block.{HasBlock}
-use Rattle.proxy_head.specs.Head.{HasFrame, IsBeginning, IsNone, BreaksAt, IsReason, IsFault}
+use Rattle.proxy_head.specs.Head.{HasFrame, IsBeginning, BeginsNothing, BreaksAt, IsReason, IsFault}
 use Rattle.proxy_head.proofs.Cuts.{cut_index, prefix_index, prefix_cut, prefix_take, not_both, ends_uncut, ends_untake}
 
 -- none of `PROXY` and a space is CR
@@ -79,7 +79,7 @@ none_take : (bytes : List ℕ) (n : ℕ) → n ≤ length bytes → NoEnd bytes 
 none_take bytes n m h = record { none = λ at l e. h.none at l (ends_untake bytes n at m e).1 }
 
 -- no block follows, and no line whose end doesn't
-line_none : (bytes : List ℕ) (n : ℕ) → 6 ≤ n → n ≤ length bytes → HasPrefix bytes LINE → ((more : List ℕ) (end : ℕ) → end ≤ 105 → EndsAt (take n bytes ++ more) end → ⊥) → IsNone (take n bytes)
+line_none : (bytes : List ℕ) (n : ℕ) → 6 ≤ n → n ≤ length bytes → HasPrefix bytes LINE → ((more : List ℕ) (end : ℕ) → end ≤ 105 → EndsAt (take n bytes ++ more) end → ⊥) → BeginsNothing (take n bytes)
 line_none bytes n six m h never more len f =
     let starts = prefix_cut (take n bytes) more LINE (prefix_take bytes LINE n six h) in
     elim f [ inl p ↦ never more p.0 p.1.short p.1.ends | inr p ↦ not_both (take n bytes ++ more) starts p.1.starts ]

@@ -6,7 +6,7 @@ use Rattle.proxy_head.specs.declared.limits.TheConstants.{LINE, SIGNATURE}
 use Rattle.proxy_head.specs.declared.fault.HeadWhy.TheVariants.{Signature}
 use Rattle.proxy_head.specs.Line.{NoEnd, fault_of}
 use Rattle.proxy_head.specs.Signs.{Agrees}
-use Rattle.proxy_head.specs.Head.{HasFrame, IsBeginning, IsNone, BreaksAt, IsReason, IsFault, reason_at}
+use Rattle.proxy_head.specs.Head.{HasFrame, IsBeginning, BeginsNothing, BreaksAt, IsReason, IsFault, reason_at}
 use Rattle.proxy_head.proofs.Cuts.{cut_index, prefix_index, prefix_untake}
 use Rattle.proxy_head.proofs.Beginnings.{sign_begins}
 use Rattle.proxy_head.proofs.LineLaws.{end_after, line_begins}
@@ -46,7 +46,7 @@ no_signature bytes line block at l b few few_too within within_too early inside 
     let short : at + 1 ≤ length bytes = omega (arith, inside) in
     let no_line : (more : List ℕ) → HasPrefix (take (at + 1) bytes ++ more) LINE → ⊥ = λ more. no_sign bytes LINE line (at + 1) l (omega (arith, within)) short few more in
     let no_block : (more : List ℕ) → HasPrefix (take (at + 1) bytes ++ more) SIGNATURE → ⊥ = λ more. no_sign bytes SIGNATURE block (at + 1) b (omega (arith, within_too)) short few_too more in
-    let broken : IsNone (take (at + 1) bytes) = λ more len f. elim f [ inl p ↦ no_line more p.1.starts | inr p ↦ no_block more p.1.starts ] in
+    let broken : BeginsNothing (take (at + 1) bytes) = λ more len f. elim f [ inl p ↦ no_line more p.1.starts | inr p ↦ no_block more p.1.starts ] in
     let here : HasPrefix (take at bytes) LINE → ⊥ = λ p. l.other (omega (arith, within, inside)) few (prefix_index bytes LINE line (prefix_untake bytes LINE at p) few) in
     inl (record { inside = inside; before = before; broken = broken }, inr (here, reason_early at early))
 

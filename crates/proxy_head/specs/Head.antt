@@ -25,14 +25,14 @@ pub record IsBeginning (bytes : List ℕ) : Type 0 where
   pub longer : length bytes < len
 
 -- Whatever follows them, they begin with none.
-abbrev pub IsNone : List ℕ → Type 0
-IsNone bytes = (more : List ℕ) (len : ℕ) → HasFrame (bytes ++ more) len → ⊥
+abbrev pub BeginsNothing : List ℕ → Type 0
+BeginsNothing bytes = (more : List ℕ) (len : ℕ) → HasFrame (bytes ++ more) len → ⊥
 
 -- The byte at this offset is the first with which the bytes begin no line and no block.
 pub record BreaksAt (bytes : List ℕ) (at : ℕ) : Type 0 where
   pub inside : at < length bytes
   pub before : IsBeginning (take at bytes)
-  pub broken : IsNone (take (at + 1) bytes)
+  pub broken : BeginsNothing (take (at + 1) bytes)
 
 -- what the byte at an offset says where it belongs to no line: the 13th the version and the command, the 14th the family, the next two the
 -- length, and those before them are the signature

@@ -1,5 +1,6 @@
 //! The words of a line.
-ghost use Rattle.std.specs.Prelude.{◌≡◌, ℕ, MatchOption, MatchResult};
+ghost use Rattle.std.specs.Prelude.{◌≡◌, ℕ, ◌+◌, ◌≤◌, length, MatchOption, MatchResult};
+ghost use Rattle.proxy_head.specs.declared.limits.TheConstants.{LAST_CR};
 ghost use Rattle.proxy_head.specs.Line.{first_word, more_words, IsAddress, IsNumberUpTo, IsPort, TellsAddresses, AddressFault, LineTells, LineFault};
 
 use crate::fault::{HeadFault, HeadWhy};
@@ -7,14 +8,14 @@ use crate::head::{Family, Source};
 use std::net::{IpAddr, Ipv4Addr, Ipv6Addr};
 
 /// The word before the first space, or all where there is none, and what follows that space.
-#[tactic(auto, unfolding(crate::specs::Line::first_word, crate::specs::Line::more_words))]
 fn split(text: &[u8]) -> (&[u8], &[u8])
     ensures word { result.0.now ≡ first_word text.now }
     ensures rest { result.1.now ≡ more_words text.now }
+    ensures fits { length result.0.now + length result.1.now ≤ length text.now }
 {
-    match text.iter().position(|byte| *byte == b' ') {
+    match text.iter().position(|&byte| byte == b' ') {
         Some(at) => (&text[..at], &text[at + 1..]),
-        None => (text, &text[text.len()..]),
+        None => (text, &[]),
     }
 }
 
@@ -67,6 +68,7 @@ fn address(family: Family, text: &[u8]) -> Option<IpAddr>
 
 /// The source that the words after the protocol tell. The fault is that of the first word that isn't what is due.
 fn addresses(family: Family, words: &[u8]) -> Result<Source, HeadFault>
+    requires { length words.now ≤ LAST_CR }
     ensures { MatchResult result (λ source. TellsAddresses family words.now source) (λ fault. AddressFault family words.now fault) }
 {
     let (source, words) = split(words);
@@ -97,6 +99,7 @@ fn addresses(family: Family, words: &[u8]) -> Result<Source, HeadFault>
 
 /// What the text of a line tells, which stands between `PROXY`, a space and the line's end: the source, or that the proxy doesn't tell it.
 pub fn told(text: &[u8]) -> Result<Option<Source>, HeadFault>
+    requires { length text.now ≤ LAST_CR }
     ensures { MatchResult result (λ source. LineTells text.now source) (λ fault. LineFault text.now fault) }
 {
     let (protocol, words) = split(text);
