@@ -29,7 +29,7 @@ const ROWS: [(&[u8], &str); 51] = [
         b"PROXY UNKNOWN ffff:ffff:ffff:ffff:ffff:ffff:ffff:ffff ffff:ffff:ffff:ffff:ffff:ffff:ffff:ffff 65535 65535\r\n",
         "107: the proxy's own",
     ),
-    (b"PROXY UNKNOWN a\rb\nc\r\n", "22: the proxy's own"),
+    (b"PROXY UNKNOWN a\rb\nc\r\n", "21: the proxy's own"),
     (b"PROXY UNKNOWNX\r\n", "byte 6: unknown protocol"),
     (
         b"PROXY TCP5 1.2.3.4 5.6.7.8 1 2\r\n",
