@@ -1,9 +1,7 @@
 -- Bytes that more could make begin with a line or a block, and those that none can.
-use Rattle.std.proofs.Common.{◌≡◌, ◌≢◌, ℕ, ◌+◌, ◌<◌, ◌≤◌, ◌∙◌, List, ◌++◌, length, take, drop, inl, inr, refl, sym, ap, subst, arith, append_assoc, length-append}
+use Rattle.std.proofs.Common.{◌≡◌, ℕ, ◌+◌, ◌<◌, ◌≤◌, ◌∙◌, List, ◌++◌, length, take, drop, inl, inr, sym, subst, arith, append_assoc, length-append}
 use Rattle.std.proofs.lemmas.List.{take-append-le, take-append-drop, take-take}
 use Rattle.std.proofs.lemmas.Bool.{cases_lt}
-use Rattle.std.specs.Net.Addr.{HasPrefix}
-use Rattle.proxy_head.specs.declared.limits.TheConstants.{LINE}
 use Rattle.proxy_head.specs.declared.fault.HeadWhy.{HeadWhy}
 use Rattle.proxy_head.specs.Head.{HasFrame, IsBeginning, BeginsNothing, BreaksAt, IsReason}
 use Rattle.proxy_head.proofs.Cuts.{frame_cut, frame_one, frame_fits}

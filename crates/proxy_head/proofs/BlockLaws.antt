@@ -1,15 +1,14 @@
 -- Bytes that begin as a block does and are none yet, or never are one.
-use Rattle.std.proofs.Common.{◌≡◌, ◌≢◌, ℕ, ◌+◌, ◌-◌, ◌*◌, ◌<◌, ◌≤◌, ◌∙◌, ◌⊎◌, List, [], ◌∷◌, ◌++◌, Some, None, length, take, drop, get_or, replicate, inl, inr, refl, sym, ap, subst, arith, length-append, length-take-le, ne_eqb}
+use Rattle.std.proofs.Common.{◌≡◌, ◌≢◌, ℕ, ◌+◌, ◌-◌, ◌*◌, ◌<◌, ◌≤◌, ◌∙◌, ◌⊎◌, List, [], ◌∷◌, ◌++◌, Some, None, length, take, get_or, replicate, inl, inr, refl, sym, ap, subst, arith, length-append, length-take-le, ne_eqb}
 use Rattle.std.proofs.lemmas.List.{get_or_append_left, get_or-append_right, get_or-take, length-replicate}
 use Rattle.std.specs.Net.Addr.{HasPrefix}
-use Rattle.proxy_head.specs.declared.limits.TheConstants.{LINE, SIGNATURE}
-use Rattle.proxy_head.specs.declared.fault.HeadWhy.{HeadWhy}
+use Rattle.proxy_head.specs.declared.limits.TheConstants.{SIGNATURE}
 use Rattle.proxy_head.specs.declared.fault.HeadWhy.TheVariants as why
 use Rattle.proxy_head.specs.declared.head.Kind.{Kind}
 use Rattle.proxy_head.specs.declared.head.Kind.TheVariants.{Ipv4, Ipv6, Skipped}
 use Rattle.proxy_head.specs.Line.{fault_of}
 use Rattle.proxy_head.specs.Block.{HasBlock, kind_of, family_kind, least_of, number_at}
-use Rattle.proxy_head.specs.Head.{HasFrame, IsBeginning, BeginsNothing, BreaksAt, IsReason, IsFault, reason_at}
+use Rattle.proxy_head.specs.Head.{IsBeginning, BeginsNothing, IsFault, reason_at}
 use Rattle.proxy_head.proofs.Cuts.{cut_index, prefix_cut, prefix_take, not_both}
 
 -- LOCAL ignores the family

@@ -1,5 +1,5 @@
 -- What bytes begin with, they begin with whatever follows.
-use Rattle.std.proofs.Common.{◌≡◌, ℕ, ◌+◌, ◌-◌, ◌*◌, ◌<◌, ◌≤◌, ◌∙◌, List, ◌++◌, Some, length, take, drop, get_or, inl, inr, sym, ap, subst, arith, append_assoc, length-append, length-take-le}
+use Rattle.std.proofs.Common.{◌≡◌, ℕ, ◌+◌, ◌-◌, ◌<◌, ◌≤◌, ◌∙◌, List, ◌++◌, Some, length, take, drop, get_or, inl, inr, sym, ap, subst, arith, length-append, length-take-le}
 use Rattle.std.proofs.lemmas.List.{length-take, length-drop, get_or_append_left, get_or-take, take-append-le, drop-append-le, take-append-drop, take-take}
 use Rattle.std.proofs.lemmas.Bool.{cases_lt}
 use Rattle.std.specs.Net.Addr.{HasPrefix}
@@ -59,12 +59,14 @@ ends_uncut bytes more at l h = record {
 pub ends_untake : (bytes : List ℕ) (n at : ℕ) → n ≤ length bytes → EndsAt (take n bytes) at → (at + 1 < n) × EndsAt bytes at
 ends_untake bytes n at m h =
     let e : length (take n bytes) ≡ n = length-take-le n bytes m in
-    let l : at + 1 < n = omega (arith, e, h.inside) in
-    (l, record {
-      inside = omega (arith, l, m);
-      cr = sym (get_or-take n bytes at 0 (omega (arith, l))) ∙ h.cr;
-      lf = sym (get_or-take n bytes (at + 1) 0 l) ∙ h.lf;
-    })
+    let l : at + 1 < n = omega (arith, e, h.inside) in (
+      l,
+      record {
+        inside = omega (arith, l, m);
+        cr = sym (get_or-take n bytes at 0 (omega (arith, l))) ∙ h.cr;
+        lf = sym (get_or-take n bytes (at + 1) 0 l) ∙ h.lf;
+      },
+    )
 
 pub line_cut : (bytes more : List ℕ) (end : ℕ) → HasLine bytes end → HasLine (bytes ++ more) end
 line_cut bytes more end h = record {

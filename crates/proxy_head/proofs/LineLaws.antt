@@ -1,14 +1,12 @@
 -- Bytes that begin as a line does and have no end of one.
-use Rattle.std.proofs.Common.{◌≡◌, ◌≢◌, ℕ, ◌+◌, ◌<◌, ◌≤◌, ◌∙◌, List, [], ◌∷◌, ◌++◌, length, take, drop, get_or, inl, inr, refl, sym, ap, subst, arith, length-append, length-take-le, Err}
+use Rattle.std.proofs.Common.{◌≡◌, ◌≢◌, ℕ, ◌+◌, ◌<◌, ◌≤◌, ◌∙◌, List, [], ◌∷◌, ◌++◌, length, take, get_or, inl, inr, refl, sym, subst, arith, length-append, length-take-le}
 use Rattle.std.proofs.lemmas.List.{get_or_append_left, get_or-append-add, get_or_at, get_or-take}
 use Rattle.std.proofs.lemmas.Bool.{cases_lt}
 use Rattle.std.specs.Net.Addr.{HasPrefix}
 use Rattle.proxy_head.specs.declared.limits.TheConstants.{LINE}
 use Rattle.proxy_head.specs.declared.fault.HeadWhy.TheVariants.{TooLong}
-use Rattle.proxy_head.specs.declared.head.Kind.{Kind}
 use Rattle.proxy_head.specs.Line.{EndsAt, HasLine, NoEnd, fault_of}
-use Rattle.proxy_head.specs.Block.{HasBlock}
-use Rattle.proxy_head.specs.Head.{HasFrame, IsBeginning, BeginsNothing, BreaksAt, IsReason, IsFault}
+use Rattle.proxy_head.specs.Head.{IsBeginning, BeginsNothing, BreaksAt, IsFault}
 use Rattle.proxy_head.proofs.Cuts.{cut_index, prefix_index, prefix_cut, prefix_take, not_both, ends_uncut, ends_untake}
 
 -- none of `PROXY` and a space is CR
@@ -50,10 +48,10 @@ line_begins bytes h none short =
       | inl l ↦ elim (cases_lt (at + 1) (length bytes)) [
         | inl m ↦ absurd (none.none at (omega (arith, l, short)) (ends_uncut bytes more at m e))
         | inr m ↦
-        let j : at + 1 ≡ length bytes = omega (arith, l, m) in
-        let P : ℕ → Type 0 = λ i. get_or (bytes ++ more) i 0 ≡ 10 in
-        let k : get_or (bytes ++ more) (length bytes) 0 ≡ 10 = subst P j e.lf in
-        omega (arith, cr, k)
+            let j : at + 1 ≡ length bytes = omega (arith, l, m) in
+            let P : ℕ → Type 0 = λ i. get_or (bytes ++ more) i 0 ≡ 10 in
+            let k : get_or (bytes ++ more) (length bytes) 0 ≡ 10 = subst P j e.lf in
+            omega (arith, cr, k)
       ]
       | inr m ↦ m
     ] in
@@ -97,9 +95,9 @@ no_cr_in_time bytes h none long other =
     let never : (more : List ℕ) (end : ℕ) → end ≤ 105 → EndsAt (x ++ more) end → ⊥ = λ more end l e. elim (cases_lt end 105) [
       | inl a ↦ none.none end l (ends_untake bytes 106 end m (ends_uncut x more end (omega (arith, a, nx)) e)).1
       | inr a ↦
-      let j : end ≡ 105 = omega (arith, a, l) in
-      let P : ℕ → Type 0 = λ i. get_or (x ++ more) i 0 ≡ 13 in
-      other (sym (cut_index bytes more 106 105 (omega arith) m) ∙ subst P j e.cr)
+          let j : end ≡ 105 = omega (arith, a, l) in
+          let P : ℕ → Type 0 = λ i. get_or (x ++ more) i 0 ≡ 13 in
+          other (sym (cut_index bytes more 106 105 (omega arith) m) ∙ subst P j e.cr)
     ] in
     too_long bytes 105 (omega arith) h (record { inside = long; before = before; broken = line_none bytes 106 (omega arith) m h never })
 

@@ -1,5 +1,5 @@
 -- Bytes are read in one way, and stay so read.
-use Rattle.std.proofs.Common.{◌≡◌, ◌≢◌, ℕ, ◌+◌, ◌<◌, ◌≤◌, ◌∙◌, List, ◌++◌, Result, Ok, Err, length, take, drop, inl, inr, refl, sym, ap, subst, arith, take_all, length-take-le}
+use Rattle.std.proofs.Common.{◌≡◌, ℕ, ◌+◌, ◌≤◌, List, ◌++◌, Result, Ok, Err, length, take, drop, inl, inr, refl, sym, ap, subst, arith, take_all, length-take-le}
 use Rattle.std.proofs.lemmas.List.{take-append-le, take-append-drop}
 use Rattle.std.proofs.lemmas.Bool.{cases_lt}
 use Rattle.proxy_head.specs.declared.fault.HeadFault.{HeadFault}

@@ -1,12 +1,12 @@
 -- Bytes that are fewer than a sign, and those that agree with neither.
-use Rattle.std.proofs.Common.{◌≡◌, ◌≢◌, ℕ, ◌+◌, ◌<◌, ◌≤◌, ◌∙◌, List, ◌++◌, length, take, drop, get_or, inl, inr, refl, sym, ap, subst, arith, append-nil, take_all, length-take-le, ne_eqb}
+use Rattle.std.proofs.Common.{◌≡◌, ◌≢◌, ℕ, ◌+◌, ◌<◌, ◌≤◌, ◌∙◌, List, ◌++◌, length, take, inl, inr, refl, sym, ap, subst, arith, take_all, ne_eqb}
 use Rattle.std.proofs.lemmas.Bool.{cases_lt}
 use Rattle.std.specs.Net.Addr.{HasPrefix}
 use Rattle.proxy_head.specs.declared.limits.TheConstants.{LINE, SIGNATURE}
 use Rattle.proxy_head.specs.declared.fault.HeadWhy.TheVariants.{Signature}
 use Rattle.proxy_head.specs.Line.{NoEnd, fault_of}
 use Rattle.proxy_head.specs.Signs.{Agrees}
-use Rattle.proxy_head.specs.Head.{HasFrame, IsBeginning, BeginsNothing, BreaksAt, IsReason, IsFault, reason_at}
+use Rattle.proxy_head.specs.Head.{IsBeginning, BeginsNothing, IsFault, reason_at}
 use Rattle.proxy_head.proofs.Cuts.{cut_index, prefix_index, prefix_untake}
 use Rattle.proxy_head.proofs.Beginnings.{sign_begins}
 use Rattle.proxy_head.proofs.LineLaws.{end_after, line_begins}

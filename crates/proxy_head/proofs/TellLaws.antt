@@ -1,11 +1,10 @@
 -- A line or a block tells one thing.
-use Rattle.std.proofs.Common.{◌≡◌, ◌≢◌, ℕ, ◌+◌, ◌*◌, ◌<◌, ◌≤◌, ◌∙◌, ◌⊎◌, List, [], ◌∷◌, ◌++◌, Option, Some, None, length, get_or, inl, inr, refl, sym, ap, subst, arith}
+use Rattle.std.proofs.Common.{◌≡◌, ℕ, ◌<◌, ◌≤◌, ◌∙◌, ◌⊎◌, List, [], ◌∷◌, ◌++◌, Option, Some, None, length, get_or, inl, inr, refl, sym, ap, subst, arith}
 use Rattle.std.proofs.lemmas.List.{get_or_append_left}
 use Rattle.std.specs.Prelude.{codes}
 use Rattle.std.specs.declared.net.ip_addr.IpAddr.{IpAddr}
 use Rattle.std.specs.declared.net.ip_addr.IpAddr.TheVariants as Ip
 use Rattle.std.specs.Net.Addr.{IsV4And, IsV6And, ipv4_octets, ipv6_segments}
-use Rattle.std.specs.Net.Grammar.{IsIpv4Text, IsIpv6Text}
 use Rattle.std.proofs.NetLemmas.Theorems.{IsIpv4Text_unique, IsIpv6Text_unique}
 use Rattle.proxy_head.specs.declared.fault.HeadFault.{HeadFault}
 use Rattle.proxy_head.specs.declared.head.Source.{Source}
@@ -13,7 +12,7 @@ use Rattle.proxy_head.specs.declared.head.Family.{Family}
 use Rattle.proxy_head.specs.declared.head.Family.TheVariants.{V4, V6}
 use Rattle.proxy_head.specs.declared.head.Kind.{Kind}
 use Rattle.proxy_head.specs.declared.head.Kind.TheVariants.{Ipv4, Ipv6, Skipped}
-use Rattle.proxy_head.specs.Line.{first_word, more_words, name_of, IsAddress, IsAddressWord, IsPort, IsPortWord, TellsAddresses, LineTells, AddressFault, LineFault}
+use Rattle.proxy_head.specs.Line.{first_word, more_words, name_of, IsAddress, IsPort, TellsAddresses, LineTells, AddressFault, LineFault}
 use Rattle.proxy_head.specs.Block.{HasBlock, BlockTells, TellsIpv4, TellsIpv6, number_at}
 use Rattle.proxy_head.proofs.Cuts.{number_cut}
 

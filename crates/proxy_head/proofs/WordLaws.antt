@@ -1,5 +1,5 @@
 -- Words of a line: where one ends, and the number that digits write.
-use Rattle.std.proofs.Common.{◌≡◌, ℕ, ◌+◌, ◌-◌, ◌*◌, ◌<◌, ◌≤◌, ◌∙◌, List, [], Bool, true, false, take, drop, length, get_or, inr, sym, ap, subst, arith, take_all}
+use Rattle.std.proofs.Common.{◌≡◌, ℕ, ◌+◌, ◌-◌, ◌*◌, ◌<◌, ◌≤◌, ◌∙◌, List, [], true, false, take, drop, length, get_or, inr, sym, ap, subst, arith, take_all}
 use Rattle.std.proofs.lemmas.List.{drop_all}
 use Rattle.std.proofs.lemmas.List.Sums.{position_or_len_is}
 use Rattle.std.proofs.lemmas.Str.{digit_value_digit}
@@ -38,9 +38,10 @@ is_small digit byte d l = omega (arith, d, l)
 -- one more digit
 pub one_more : (text : List ℕ) (i value next : ℕ) → i < length text → IsInRange 48 57 (get_or text i 0) → AllDigits 10 (take i text) → value ≡ digits_value 10 (take i text) → next ≡ value * 10 + (get_or text i 0 - 48) → (next ≡ digits_value 10 (take (i + 1) text)) × AllDigits 10 (take (i + 1) text)
 one_more text i value next l digit all is step =
-    let d : digit_value (get_or text i 0) + 48 ≡ get_or text i 0 = digit_value_digit (get_or text i 0) digit in
-    (next_is value next (digits_value 10 (take i text)) (digits_value 10 (take (i + 1) text)) (digit_value (get_or text i 0)) (get_or text i 0) is step (digits_value_more 10 text i l) d,
-    digits_more 10 text i l all (is_small (digit_value (get_or text i 0)) (get_or text i 0) d digit.1))
+    let d : digit_value (get_or text i 0) + 48 ≡ get_or text i 0 = digit_value_digit (get_or text i 0) digit in (
+      next_is value next (digits_value 10 (take i text)) (digits_value 10 (take (i + 1) text)) (digit_value (get_or text i 0)) (get_or text i 0) is step (digits_value_more 10 text i l) d,
+      digits_more 10 text i l all (is_small (digit_value (get_or text i 0)) (get_or text i 0) d digit.1),
+    )
 
 is_over : (part whole n : ℕ) → 65535 < part → part ≤ whole → whole ≡ n → n ≤ 65535 → ⊥
 is_over part whole n large part_of is fits = omega (arith, large, part_of, is, fits)

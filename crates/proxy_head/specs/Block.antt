@@ -1,5 +1,5 @@
 -- A head of version 2: a signature, two bytes that say what follows, its length, and that many bytes.
-use Rattle.std.specs.Prelude.{◌≡◌, ℕ, ◌+◌, ◌*◌, ◌<◌, ◌≤◌, ◌==◌, ◌||◌, if◌then◌else◌, List, [], ◌∷◌, length, slice_index, Option, Some, None}
+use Rattle.std.specs.Prelude.{◌≡◌, ℕ, ◌+◌, ◌*◌, ◌≤◌, ◌==◌, ◌||◌, if◌then◌else◌, List, [], ◌∷◌, length, slice_index, Option, Some, None}
 use Rattle.std.specs.Net.Addr.{HasPrefix, IsV4And, IsV6And, ipv4_octets, ipv6_segments}
 use Rattle.proxy_head.specs.declared.limits.TheConstants.{SIGNATURE, MOST_BLOCK}
 use Rattle.proxy_head.specs.declared.head.Source.{Source}

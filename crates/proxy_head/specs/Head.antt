@@ -1,5 +1,5 @@
 -- What bytes are: a head, too few to tell, or no head.
-use Rattle.std.specs.Prelude.{◌≡◌, ℕ, ◌+◌, ◌<◌, ◌≤◌, ◌==◌, ◌⊎◌, if◌then◌else◌, List, ◌++◌, length, take, Result, Ok, Err}
+use Rattle.std.specs.Prelude.{◌≡◌, ℕ, ◌+◌, ◌<◌, ◌==◌, ◌⊎◌, if◌then◌else◌, List, ◌++◌, length, take, Result, Ok, Err}
 use Rattle.std.specs.Net.Addr.{HasPrefix}
 use Rattle.proxy_head.specs.declared.limits.TheConstants.{LINE}
 use Rattle.proxy_head.specs.declared.fault.HeadFault.{HeadFault}

@@ -1,5 +1,5 @@
 -- What holds of heads whatever reads them.
-use Rattle.std.specs.Prelude.{◌≡◌, ◌≢◌, ℕ, List, ◌++◌, take, Result, Ok, Err}
+use Rattle.std.specs.Prelude.{◌≡◌, ◌≢◌, ℕ, List, ◌++◌, take, Result, Ok}
 use Rattle.proxy_head.specs.declared.limits.TheConstants.{MOST_HEAD}
 use Rattle.proxy_head.specs.declared.fault.HeadFault.{HeadFault}
 use Rattle.proxy_head.specs.declared.head.Reading.{Reading}

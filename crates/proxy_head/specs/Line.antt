@@ -1,5 +1,5 @@
 -- A head of version 1: one line of text, and what it tells.
-use Rattle.std.specs.Prelude.{◌≡◌, ◌≢◌, ℕ, ◌+◌, ◌^◌, ◌<◌, ◌≤◌, ◌==◌, Bool, ◌⊎◌, List, [], ◌∷◌, length, take, slice_index, slice_range, Option, Some, None, codes}
+use Rattle.std.specs.Prelude.{◌≡◌, ◌≢◌, ℕ, ◌+◌, ◌<◌, ◌≤◌, ◌==◌, Bool, ◌⊎◌, List, length, slice_index, slice_range, Option, Some, None, codes}
 use Rattle.std.specs.List.{before_first, after_first}
 use Rattle.std.specs.declared.net.ip_addr.IpAddr.{IpAddr}
 use Rattle.std.specs.declared.net.ip_addr.IpAddr.TheVariants as Ip

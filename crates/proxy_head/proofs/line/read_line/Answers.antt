@@ -1,6 +1,5 @@
-use Rattle.std.proofs.Common.{ℕ, inl, inr, refl, arith}
+use Rattle.std.proofs.Common.{inl, inr, refl}
 use Rattle.proxy_head.specs.Line.{HasLine}
-use Rattle.proxy_head.proofs.LineLaws.{end_after}
 use Rattle.proxy_head.proofs.line.read_line.Goals as goal
 
 pub returns-in-Err : goal.returns-in-Err

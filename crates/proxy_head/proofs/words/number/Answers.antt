@@ -1,4 +1,4 @@
-use Rattle.std.proofs.Common.{◌≡◌, ℕ, ◌+◌, ◌-◌, ◌*◌, ◌<◌, ◌≤◌, length, get_or, arith}
+use Rattle.std.proofs.Common.{◌+◌, ◌-◌, ◌*◌, get_or, arith}
 use Rattle.proxy_head.proofs.WordLaws.{no_digit, one_more, too_large}
 use Rattle.proxy_head.proofs.words.number.Goals as goal
 

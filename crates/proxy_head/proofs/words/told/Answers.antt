@@ -1,6 +1,6 @@
 use Rattle.std.proofs.Common.{◌≡◌, rules, sym, ◌∙◌}
 use Rattle.proxy_head.specs.declared.head.Family.TheVariants.{V4, V6}
-use Rattle.proxy_head.specs.Line.{first_word, name_of}
+use Rattle.proxy_head.specs.Line.{name_of}
 use Rattle.proxy_head.proofs.WordLaws.{fault_in_words}
 use Rattle.proxy_head.proofs.words.told.Goals.{then-eq, else-eq+then-eq-2}
 use Rattle.proxy_head.proofs.words.told.Goals as goal
