@@ -5,15 +5,17 @@ use std::net::IpAddr;
 /// The address and the port from which the sender reached the proxy.
 #[derive(Clone, Copy)]
 pub struct Source {
+    /// The address, of IPv4 or IPv6 as the head has it.
     pub ip: IpAddr,
+    /// The port of TCP.
     pub port: u16,
 }
 
 /// A head.
 #[derive(Clone, Copy)]
 pub struct Head {
-    /// The sender's; `None` where the proxy speaks for itself, as it does for a check of health, or doesn't know it. Then the address of
-    /// the connection itself is the sender's.
+    /// The sender's; `None` where the proxy speaks for itself, as it does for a check of health, where it doesn't know the sender, or where
+    /// the sender came by another protocol than TCP over IPv4 or IPv6. Then the address of the connection itself is the sender's.
     pub source: Option<Source>,
     /// How many bytes the head has.
     pub len: usize,
