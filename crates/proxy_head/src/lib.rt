@@ -12,11 +12,11 @@ mod head;
 mod laws;
 mod limits;
 mod line;
-mod read;
+mod reader;
 mod words;
 
 pub use fault::{HeadFault, HeadWhy};
 pub use head::{Head, Reading, Source};
 pub use laws::{looks_at_few, one_reading, stays_read};
 pub use limits::{MOST_BLOCK, MOST_HEAD, MOST_LINE};
-pub use read::read;
+pub use reader::read;
