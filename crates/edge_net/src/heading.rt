@@ -6,7 +6,6 @@ use std::io::{self, ErrorKind};
 use std::net::TcpStream;
 use std::rt::Clock;
 use std::time::Duration;
-use thiserror::Error;
 
 /// What is due before the first byte of a connection that was accepted.
 #[derive(Clone, Copy, PartialEq, Eq)]
@@ -20,16 +19,13 @@ pub(crate) enum Due {
 }
 
 /// Why a connection is ended before the first byte of it is read.
-#[derive(Clone, Copy, PartialEq, Eq, Debug, Drop, Error)]
+#[derive(Clone, Copy, PartialEq, Eq)]
 pub enum Unheaded {
     /// It doesn't come through a proxy.
-    #[error("it isn't one of the proxies that --accept-proxy names")]
     Stranger,
     /// It ended within the head.
-    #[error("it ended within the head that a proxy sends first")]
     Cut,
     /// What it begins with is no head.
-    #[error("it doesn't begin with the head that a proxy sends first: {0}")]
     Wrong(HeadFault),
 }
 

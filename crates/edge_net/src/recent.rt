@@ -86,7 +86,9 @@ fn same_matter(one: Matter, other: Matter) -> bool
         (Matter::FrameRefused { code }, Matter::FrameRefused { code: other_code }) => {
             code == other_code
         }
-        (Matter::Unheaded { why }, Matter::Unheaded { why: other_why }) => same_lack(why, other_why),
+        (Matter::Unheaded { why }, Matter::Unheaded { why: other_why }) => same_lack(
+            why, other_why,
+        ),
         (
             Matter::Ended {
                 proto,

@@ -6,7 +6,9 @@ use crate::counts::Counts;
 use crate::hindrance::Hindrance;
 use crate::page::{pending_of, room_of};
 use crate::since::millis;
-use crate::{FileCounts, Illness, Line, Matter, Proxies, Receiver, Recent, Since, Standstill, Topic};
+use crate::{
+    FileCounts, Illness, Line, Matter, Proxies, Receiver, Recent, Since, Standstill, Topic,
+};
 use edge_io::{HeldUp, SpoolNumbers};
 use std::net::SocketAddr;
 use std::rt::Clock;

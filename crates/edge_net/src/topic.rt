@@ -108,7 +108,22 @@ impl fmt::Display for Matter {
                 write!(f, "a request was refused with {code}")
             }
             Matter::FrameRefused { code } => write!(f, "a frame was refused with {code}"),
-            Matter::Unheaded { why } => write!(f, "its connection was ended: {why}"),
+            Matter::Unheaded {
+                why: Unheaded::Stranger,
+            } => write!(
+                f,
+                "its connection was ended: it isn't one of the proxies that --accept-proxy names"
+            ),
+            Matter::Unheaded { why: Unheaded::Cut } => write!(
+                f,
+                "its connection was ended: it ended within the head that a proxy sends first"
+            ),
+            Matter::Unheaded {
+                why: Unheaded::Wrong(fault),
+            } => write!(
+                f,
+                "its connection was ended: it doesn't begin with the head that a proxy sends first: {fault}"
+            ),
             Matter::Ended {
                 proto,
                 status,
