@@ -1,5 +1,5 @@
 //! A head of version 2.
-ghost use Rattle.std.specs.Prelude.{◌≡◌, ◌+◌, ◌*◌, ◌<◌, ◌≤◌, length, Some, slice_index};
+ghost use Rattle.std.specs.Prelude.{◌≡◌, ◌+◌, ◌*◌, ◌<◌, ◌≤◌, ◌⊎◌, ◌↔◌, IsTrue, length, Some, slice_index};
 ghost use Rattle.std.specs.Net.Addr.{HasPrefix};
 ghost use Rattle.proxy_head.specs.Block.{family_kind, kind_of, least_of, number_at, BlockTells, TellsIpv4, TellsIpv6};
 ghost use Rattle.proxy_head.specs.Head.{Reads};
@@ -10,6 +10,7 @@ use crate::limits::SIGNATURE;
 use std::net::{IpAddr, Ipv4Addr, Ipv6Addr};
 
 /// Which addresses a block has that was sent for another node, by its family.
+#[tactic(auto, unfolding(crate::specs::Block::family_kind))]
 fn family_kind(family: u8) -> Option<Kind>
     ensures { result ≡ family_kind family }
 {
@@ -22,6 +23,7 @@ fn family_kind(family: u8) -> Option<Kind>
 }
 
 /// Which addresses a block has, by its command and its family.
+#[tactic(auto, unfolding(crate::specs::Block::kind_of))]
 fn kind_of(command: u8, family: u8) -> Option<Kind>
     ensures { result ≡ kind_of command family }
 {
@@ -30,6 +32,13 @@ fn kind_of(command: u8, family: u8) -> Option<Kind>
         0x21 => family_kind(family),
         _ => None,
     }
+}
+
+/// Whether the byte is that of version 2 and LOCAL, or of version 2 and PROXY.
+fn is_command(command: u8) -> bool
+    ensures { IsTrue result ↔ ((command ≡ 0x20) ⊎ (command ≡ 0x21)) }
+{
+    matches!(command, 0x20 | 0x21)
 }
 
 /// How many bytes the addresses take.
@@ -148,7 +157,7 @@ pub fn read_block(bytes: &[u8]) -> Result<Reading, HeadFault>
     if bytes.len() < 13 {
         return Ok(Reading::More);
     }
-    if bytes[12] != 0x20 && bytes[12] != 0x21 {
+    if !is_command(bytes[12]) {
         let (at, why) = (12, HeadWhy::Command);
         return Err(HeadFault { at, why });
     }

@@ -12,6 +12,9 @@ pub const MOST_LINE: usize = 107;
 /// The last offset at which the CR of such a line may stand.
 pub const LAST_CR: usize = 105;
 
+/// The last offset at which its LF may stand.
+pub const LAST_LF: usize = 106;
+
 /// How many bytes of addresses and of what follows them a head of version 2 has at most.
 pub const MOST_BLOCK: usize = 4_095;
 

@@ -6,7 +6,7 @@ ghost use Rattle.proxy_head.specs.Head.{Reads};
 
 use crate::fault::{HeadFault, HeadWhy};
 use crate::head::{Head, Reading};
-use crate::limits::{LAST_CR, LINE};
+use crate::limits::{LAST_CR, LAST_LF, LINE};
 use crate::words::told;
 
 /// The offset of the first CR that LF follows, where both are among the first 107 bytes.
@@ -15,7 +15,7 @@ fn line_end(bytes: &[u8]) -> Option<usize>
     ensures first { IfSome result (λ end. (at : ℕ) → EndsAt bytes.now at → end ≤ at) }
     ensures none { IfNone result (NoEnd bytes.now) }
 {
-    for at in 0..bytes.len().saturating_sub(1).min(LAST_CR + 1) {
+    for at in 0..bytes.len().saturating_sub(1).min(LAST_LF) {
         if bytes[at] == b'\r' && bytes[at + 1] == b'\n' {
             return Some(at);
         }
@@ -30,15 +30,18 @@ fn unended(bytes: &[u8]) -> Result<Reading, HeadFault>
     ensures { Reads bytes.now result }
 {
     let why = HeadWhy::TooLong;
-    if bytes.len() > LAST_CR && bytes[LAST_CR] != b'\r' {
+    if bytes.len() <= LAST_CR {
+        return Ok(Reading::More);
+    }
+    if bytes[LAST_CR] != b'\r' {
         let at = LAST_CR;
         return Err(HeadFault { at, why });
     }
-    if bytes.len() > LAST_CR + 1 {
-        let at = LAST_CR + 1;
-        return Err(HeadFault { at, why });
+    if bytes.len() <= LAST_LF {
+        return Ok(Reading::More);
     }
-    Ok(Reading::More)
+    let at = LAST_LF;
+    Err(HeadFault { at, why })
 }
 
 /// What bytes are that begin as a line does.

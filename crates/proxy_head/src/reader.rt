@@ -12,11 +12,13 @@ use crate::line::read_line;
 fn agreed(bytes: &[u8], sign: &[u8]) -> usize
     ensures { Agrees bytes.now sign.now result }
 {
-    let mut count = 0;
-    while count < bytes.len() && count < sign.len() && bytes[count] == sign[count] {
-        count += 1;
+    let most = bytes.len().min(sign.len());
+    for count in 0..most {
+        if bytes[count] != sign[count] {
+            return count;
+        }
     }
-    count
+    most
 }
 
 /// Reads the head of the PROXY protocol, version 1 or 2, that the bytes which came so far begin with: what it tells, and how many bytes it

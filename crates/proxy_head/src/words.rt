@@ -7,6 +7,7 @@ use crate::head::{Family, Source};
 use std::net::{IpAddr, Ipv4Addr, Ipv6Addr};
 
 /// The word before the first space, or all where there is none, and what follows that space.
+#[tactic(auto, unfolding(crate::specs::Line::first_word, crate::specs::Line::more_words))]
 fn split(text: &[u8]) -> (&[u8], &[u8])
     ensures word { result.0.now ≡ first_word text.now }
     ensures rest { result.1.now ≡ more_words text.now }

@@ -1,0 +1,14 @@
+use Rattle.std.proofs.Common.{ℕ, inl, inr, refl, arith}
+use Rattle.proxy_head.specs.Line.{HasLine}
+use Rattle.proxy_head.proofs.LineLaws.{end_after}
+use Rattle.proxy_head.proofs.line.read_line.Goals as goal
+
+pub returns-in_err-source : goal.returns-in_err-source
+returns-in_err-source c =
+    let line : HasLine c.args.bytes.now c.in-Some.end = record { starts = c.requires; ends = c.in-Some.ensures.found.0; first = c.in-Some.ensures.first; short = c.in-Some.ensures.found.1 } in
+    inr (c.in-Some.end, line, c.in_err-source.ensures)
+
+pub returns-in-Some : goal.returns-in-Some
+returns-in-Some c =
+    let line : HasLine c.args.bytes.now c.in-Some.end = record { starts = c.requires; ends = c.in-Some.ensures.found.0; first = c.in-Some.ensures.first; short = c.in-Some.ensures.found.1 } in
+    inl (c.in-Some.end, line, refl, c.in_ok-source.ensures)
