@@ -114,10 +114,10 @@ part_begins bytes kind h long is room few short =
 
 -- a byte after the signature with which no block can begin
 block_breaks : (bytes : List ℕ) (at : ℕ) → 12 ≤ at → at < length bytes → HasPrefix bytes SIGNATURE → IsBeginning (take at bytes) → ((more : List ℕ) (kind : Kind) (len : ℕ) → HasBlock (take (at + 1) bytes ++ more) kind len → ⊥) → IsFault bytes (fault_of at (reason_at at))
-block_breaks bytes at late inside h before no =
+block_breaks bytes at late inside h before never =
     let here = prefix_take bytes SIGNATURE at late h in
     let next : (more : List ℕ) → HasPrefix (take (at + 1) bytes ++ more) SIGNATURE = λ more. prefix_cut (take (at + 1) bytes) more SIGNATURE (prefix_take bytes SIGNATURE (at + 1) (omega (arith, late)) h) in
-    let broken : IsNone (take (at + 1) bytes) = λ more len f. elim f [ inl p ↦ not_both (take (at + 1) bytes ++ more) p.1.starts (next more) | inr p ↦ no more p.0 len p.1 ] in
+    let broken : IsNone (take (at + 1) bytes) = λ more len f. elim f [ inl p ↦ not_both (take (at + 1) bytes ++ more) p.1.starts (next more) | inr p ↦ never more p.0 len p.1 ] in
     inl (record { inside = inside; before = before; broken = broken }, inr ((λ line. not_both (take at bytes) line here), refl))
 
 -- the 13th byte is no command
@@ -125,13 +125,13 @@ pub wrong_command : (bytes : List ℕ) → HasPrefix bytes SIGNATURE → 12 < le
 wrong_command bytes h long local proxy =
     let n : length (take 12 bytes) ≡ 12 = length-take-le 12 bytes (omega (arith, long)) in
     let before = signature_begins (take 12 bytes) (prefix_take bytes SIGNATURE 12 (omega arith) h) n in
-    let no : (more : List ℕ) (kind : Kind) (len : ℕ) → HasBlock (take 13 bytes ++ more) kind len → ⊥ = λ more kind len b.
+    let never : (more : List ℕ) (kind : Kind) (len : ℕ) → HasBlock (take 13 bytes ++ more) kind len → ⊥ = λ more kind len b.
     let x = take 13 bytes ++ more in
     let c : get_or x 12 0 ≡ get_or bytes 12 0 = cut_index bytes more 13 12 (omega arith) (omega (arith, long)) in
     let none : kind_of (get_or x 12 0) (get_or x 13 0) ≡ None = ap (λ (v : ℕ). kind_of v (get_or x 13 0)) c ∙ no_kind (get_or bytes 12 0) (get_or x 13 0) local proxy in
     let e : None ≡ Some kind = sym none ∙ b.kind_is in
     cc in
-    block_breaks bytes 12 (omega arith) long h before no
+    block_breaks bytes 12 (omega arith) long h before never
 
 -- the command of a kind
 kind_command : (bytes : List ℕ) (n : ℕ) (more : List ℕ) → 14 ≤ n → n ≤ length bytes → kind_of (get_or (take n bytes ++ more) 12 0) (get_or (take n bytes ++ more) 13 0) ≡ kind_of (get_or bytes 12 0) (get_or bytes 13 0)
@@ -148,10 +148,10 @@ wrong_family bytes h long command is =
     let same : get_or (take 13 bytes) 12 0 ≡ get_or bytes 12 0 = get_or-take 13 bytes 12 0 (omega arith) in
     let P : ℕ → Type 0 = λ c. (c ≡ 0x20) ⊎ (c ≡ 0x21) in
     let before = command_begins (take 13 bytes) (prefix_take bytes SIGNATURE 13 (omega arith) h) n (subst P (sym same) command) in
-    let no : (more : List ℕ) (kind : Kind) (len : ℕ) → HasBlock (take 14 bytes ++ more) kind len → ⊥ = λ more kind len b.
+    let never : (more : List ℕ) (kind : Kind) (len : ℕ) → HasBlock (take 14 bytes ++ more) kind len → ⊥ = λ more kind len b.
     let e : None ≡ Some kind = sym is ∙ sym (kind_command bytes 14 more (omega arith) (omega (arith, long))) ∙ b.kind_is in
     cc in
-    block_breaks bytes 13 (omega arith) long h before no
+    block_breaks bytes 13 (omega arith) long h before never
 
 -- the kind of the first bytes
 kind_take : (bytes : List ℕ) (n : ℕ) (kind : Kind) → 14 ≤ n → kind_of (get_or bytes 12 0) (get_or bytes 13 0) ≡ Some kind → kind_of (get_or (take n bytes) 12 0) (get_or (take n bytes) 13 0) ≡ Some kind
@@ -165,10 +165,10 @@ pub too_many : (bytes : List ℕ) (kind : Kind) → HasPrefix bytes SIGNATURE �
 too_many bytes kind h long is many =
     let n : length (take 14 bytes) ≡ 14 = length-take-le 14 bytes (omega (arith, long)) in
     let before = family_begins (take 14 bytes) kind (prefix_take bytes SIGNATURE 14 (omega arith) h) n (kind_take bytes 14 kind (omega arith) is) in
-    let no : (more : List ℕ) (other : Kind) (len : ℕ) → HasBlock (take 15 bytes ++ more) other len → ⊥ = λ more other len b.
+    let never : (more : List ℕ) (other : Kind) (len : ℕ) → HasBlock (take 15 bytes ++ more) other len → ⊥ = λ more other len b.
     let hi : get_or (take 15 bytes ++ more) 14 0 ≡ get_or bytes 14 0 = cut_index bytes more 15 14 (omega arith) (omega (arith, long)) in
     omega (arith, hi, many, b.few) in
-    block_breaks bytes 14 (omega arith) long h before no
+    block_breaks bytes 14 (omega arith) long h before never
 
 -- the 16th byte makes a length that is shorter than the addresses
 pub too_short : (bytes : List ℕ) (kind : Kind) → HasPrefix bytes SIGNATURE → 15 < length bytes → kind_of (get_or bytes 12 0) (get_or bytes 13 0) ≡ Some kind → get_or bytes 14 0 ≤ 15 → number_at bytes 14 < least_of kind → IsFault bytes (fault_of 15 why.Short)
@@ -176,7 +176,7 @@ too_short bytes kind h long is few short =
     let n : length (take 15 bytes) ≡ 15 = length-take-le 15 bytes (omega (arith, long)) in
     let high : get_or (take 15 bytes) 14 0 ≡ get_or bytes 14 0 = get_or-take 15 bytes 14 0 (omega arith) in
     let before = length_begins (take 15 bytes) kind (prefix_take bytes SIGNATURE 15 (omega arith) h) n (kind_take bytes 15 kind (omega arith) is) (omega (arith, high, few)) in
-    let no : (more : List ℕ) (other : Kind) (len : ℕ) → HasBlock (take 16 bytes ++ more) other len → ⊥ = λ more other len b.
+    let never : (more : List ℕ) (other : Kind) (len : ℕ) → HasBlock (take 16 bytes ++ more) other len → ⊥ = λ more other len b.
     let m : 16 ≤ length bytes = omega (arith, long) in
     let hi : get_or (take 16 bytes ++ more) 14 0 ≡ get_or bytes 14 0 = cut_index bytes more 16 14 (omega arith) m in
     let lo : get_or (take 16 bytes ++ more) 15 0 ≡ get_or bytes 15 0 = cut_index bytes more 16 15 (omega arith) m in
@@ -184,4 +184,4 @@ too_short bytes kind h long is few short =
     let same : kind ≡ other = cc in
     let least : least_of kind ≡ least_of other = ap least_of same in
     omega (arith, hi, lo, least, short, b.room) in
-    block_breaks bytes 15 (omega arith) long h before no
+    block_breaks bytes 15 (omega arith) long h before never

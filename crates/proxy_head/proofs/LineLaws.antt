@@ -80,9 +80,9 @@ none_take bytes n m h = record { none = λ at l e. h.none at l (ends_untake byte
 
 -- no block follows, and no line whose end doesn't
 line_none : (bytes : List ℕ) (n : ℕ) → 6 ≤ n → n ≤ length bytes → HasPrefix bytes LINE → ((more : List ℕ) (end : ℕ) → end ≤ 105 → EndsAt (take n bytes ++ more) end → ⊥) → IsNone (take n bytes)
-line_none bytes n six m h no more len f =
+line_none bytes n six m h never more len f =
     let starts = prefix_cut (take n bytes) more LINE (prefix_take bytes LINE n six h) in
-    elim f [ inl p ↦ no more p.0 p.1.short p.1.ends | inr p ↦ not_both (take n bytes ++ more) starts p.1.starts ]
+    elim f [ inl p ↦ never more p.0 p.1.short p.1.ends | inr p ↦ not_both (take n bytes ++ more) starts p.1.starts ]
 
 too_long : (bytes : List ℕ) (at : ℕ) → 6 ≤ at → HasPrefix bytes LINE → BreaksAt bytes at → IsFault bytes (fault_of at TooLong)
 too_long bytes at six h b = inl (b, inl (prefix_take bytes LINE at six h, refl))
@@ -94,14 +94,14 @@ no_cr_in_time bytes h none long other =
     let before = line_begins (take 105 bytes) (prefix_take bytes LINE 105 (omega arith) h) (none_take bytes 105 (omega (arith, m)) none) (omega (arith, length-take-le 105 bytes (omega (arith, m)))) in
     let x = take 106 bytes in
     let nx : length x ≡ 106 = length-take-le 106 bytes m in
-    let no : (more : List ℕ) (end : ℕ) → end ≤ 105 → EndsAt (x ++ more) end → ⊥ = λ more end l e. elim (cases_lt end 105) [
+    let never : (more : List ℕ) (end : ℕ) → end ≤ 105 → EndsAt (x ++ more) end → ⊥ = λ more end l e. elim (cases_lt end 105) [
       | inl a ↦ none.none end l (ends_untake bytes 106 end m (ends_uncut x more end (omega (arith, a, nx)) e)).1
       | inr a ↦
       let j : end ≡ 105 = omega (arith, a, l) in
       let P : ℕ → Type 0 = λ i. get_or (x ++ more) i 0 ≡ 13 in
       other (sym (cut_index bytes more 106 105 (omega arith) m) ∙ subst P j e.cr)
     ] in
-    too_long bytes 105 (omega arith) h (record { inside = long; before = before; broken = line_none bytes 106 (omega arith) m h no })
+    too_long bytes 105 (omega arith) h (record { inside = long; before = before; broken = line_none bytes 106 (omega arith) m h never })
 
 -- the byte after that CR isn't LF
 pub no_lf_in_time : (bytes : List ℕ) → HasPrefix bytes LINE → NoEnd bytes → 106 < length bytes → get_or bytes 105 0 ≡ 13 → IsFault bytes (fault_of 106 TooLong)
@@ -111,5 +111,5 @@ no_lf_in_time bytes h none long cr =
     let before = line_begins_cr (take 106 bytes) (prefix_take bytes LINE 106 (omega arith) h) (none_take bytes 106 (omega (arith, m)) none) n (get_or-take 106 bytes 105 0 (omega arith) ∙ cr) in
     let x = take 107 bytes in
     let nx : length x ≡ 107 = length-take-le 107 bytes m in
-    let no : (more : List ℕ) (end : ℕ) → end ≤ 105 → EndsAt (x ++ more) end → ⊥ = λ more end l e. none.none end l (ends_untake bytes 107 end m (ends_uncut x more end (omega (arith, l, nx)) e)).1 in
-    too_long bytes 106 (omega arith) h (record { inside = long; before = before; broken = line_none bytes 107 (omega arith) m h no })
+    let never : (more : List ℕ) (end : ℕ) → end ≤ 105 → EndsAt (x ++ more) end → ⊥ = λ more end l e. none.none end l (ends_untake bytes 107 end m (ends_uncut x more end (omega (arith, l, nx)) e)).1 in
+    too_long bytes 106 (omega arith) h (record { inside = long; before = before; broken = line_none bytes 107 (omega arith) m h never })

@@ -1,5 +1,6 @@
 -- Bytes that are fewer than a sign, and those that agree with neither.
 use Rattle.std.proofs.Common.{◌≡◌, ◌≢◌, ℕ, ◌+◌, ◌<◌, ◌≤◌, ◌∙◌, List, ◌++◌, length, take, drop, get_or, inl, inr, refl, sym, ap, subst, arith, append-nil, take_all, length-take-le, ne_eqb}
+use Rattle.std.proofs.lemmas.Bool.{cases_lt}
 use Rattle.std.specs.Net.Addr.{HasPrefix}
 use Rattle.proxy_head.specs.declared.limits.TheConstants.{LINE, SIGNATURE}
 use Rattle.proxy_head.specs.declared.fault.HeadWhy.TheVariants.{Signature}
@@ -48,3 +49,25 @@ no_signature bytes line block at l b few few_too within within_too early inside 
     let broken : IsNone (take (at + 1) bytes) = λ more len f. elim f [ inl p ↦ no_line more p.1.starts | inr p ↦ no_block more p.1.starts ] in
     let here : HasPrefix (take at bytes) LINE → ⊥ = λ p. l.other (omega (arith, within, inside)) few (prefix_index bytes LINE line (prefix_untake bytes LINE at p) few) in
     inl (record { inside = inside; before = before; broken = broken }, inr (here, reason_early at early))
+
+-- a sign that agrees as a whole
+pub whole_sign : (bytes sign : List ℕ) (count : ℕ) → Agrees bytes sign count → count ≡ length sign → HasPrefix bytes sign
+whole_sign bytes sign count h all = ap (λ (n : ℕ). take n bytes) (sym all) ∙ h.same ∙ take_all count sign (omega (arith, all))
+
+-- all that there is agrees with one of the signs
+pub too_few : (bytes : List ℕ) (line block at : ℕ) → Agrees bytes LINE line → Agrees bytes SIGNATURE block → line ≤ at → (line < at → at ≡ block) → at ≡ length bytes → IsBeginning bytes
+too_few bytes line block at l b low other all = elim (cases_lt line at) [
+  | inl m ↦ all_agree bytes SIGNATURE block b (sym (other m) ∙ all) signature_itself
+  | inr m ↦ all_agree bytes LINE line l (omega (arith, m, low, all)) line_itself
+]
+
+-- there is more, and it agrees with neither
+pub no_head : (bytes : List ℕ) (line block at : ℕ) → Agrees bytes LINE line → Agrees bytes SIGNATURE block → line ≤ at → block ≤ at → (line < at → at ≡ block) → line < 6 → block < 12 → at < length bytes → IsFault bytes (fault_of at Signature)
+no_head bytes line block at l b low low_too other few few_too inside =
+    let P : ℕ → Type 0 = λ n. IsBeginning (take n bytes) in
+    let early : at < 12 = elim (cases_lt line at) [ inl m ↦ let e : at ≡ block = other m in omega (arith, e, few_too) | inr m ↦ omega (arith, m, few) ] in
+    let before : IsBeginning (take at bytes) = elim (cases_lt line at) [
+      | inl m ↦ subst P (sym (other m)) (sign_begins bytes SIGNATURE block b.same signature_itself)
+      | inr m ↦ let e : line ≡ at = omega (arith, m, low) in subst P e (sign_begins bytes LINE line l.same line_itself)
+    ] in
+    no_signature bytes line block at l b few few_too low low_too early inside before

@@ -50,11 +50,13 @@ pub fn read_line(bytes: &[u8]) -> Result<Reading, HeadFault>
     ensures { Reads bytes.now result }
 {
     match line_end(bytes) {
-        Some(end) => {
-            let source = told(&bytes[LINE.len()..end])?;
-            let len = end + 2;
-            Ok(Reading::Whole(Head { source, len }))
-        }
+        Some(end) => match told(&bytes[LINE.len()..end]) {
+            Ok(source) => {
+                let len = end + 2;
+                Ok(Reading::Whole(Head { source, len }))
+            }
+            Err(fault) => Err(fault),
+        },
         None => unended(bytes),
     }
 }

@@ -110,5 +110,8 @@ pub fn told(text: &[u8]) -> Result<Option<Source>, HeadFault>
         let (at, why) = (6, HeadWhy::Protocol);
         return Err(HeadFault { at, why });
     };
-    Ok(Some(addresses(family, words)?))
+    match addresses(family, words) {
+        Ok(source) => Ok(Some(source)),
+        Err(fault) => Err(fault),
+    }
 }

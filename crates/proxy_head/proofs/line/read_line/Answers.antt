@@ -3,12 +3,12 @@ use Rattle.proxy_head.specs.Line.{HasLine}
 use Rattle.proxy_head.proofs.LineLaws.{end_after}
 use Rattle.proxy_head.proofs.line.read_line.Goals as goal
 
-pub returns-in_err-source : goal.returns-in_err-source
-returns-in_err-source c =
+pub returns-in-Err : goal.returns-in-Err
+returns-in-Err c =
     let line : HasLine c.args.bytes.now c.in-Some.end = record { starts = c.requires; ends = c.in-Some.ensures.found.0; first = c.in-Some.ensures.first; short = c.in-Some.ensures.found.1 } in
-    inr (c.in-Some.end, line, c.in_err-source.ensures)
+    inr (c.in-Some.end, line, c.in-Err.ensures)
 
-pub returns-in-Some : goal.returns-in-Some
-returns-in-Some c =
+pub returns-in-Ok : goal.returns-in-Ok
+returns-in-Ok c =
     let line : HasLine c.args.bytes.now c.in-Some.end = record { starts = c.requires; ends = c.in-Some.ensures.found.0; first = c.in-Some.ensures.first; short = c.in-Some.ensures.found.1 } in
-    inl (c.in-Some.end, line, refl, c.in_ok-source.ensures)
+    inl (c.in-Some.end, line, refl, c.in-Ok.ensures)
