@@ -1,4 +1,4 @@
-use Rattle.std.proofs.Common.{ℕ, arith, ◌∷◌, [], length, length-append, refl, sym, ap, subst, ◌∙◌}
+use Rattle.std.proofs.Common.{ℕ, arith, List, ◌∷◌, [], length, map, length-append, refl, sym, ap, subst, ◌∙◌}
 use Rattle.std.specs.Prelude.{Some}
 use Rattle.std.proofs.lemmas.Iterator.{YieldsList-from_zip}
 use Rattle.std.proofs.lemmas.Iterator.Adapters.{YieldsList-from_vec}
@@ -8,6 +8,31 @@ use Rattle.serve_workers.specs.Crews.{IsReady}
 use Rattle.serve_workers.specs.Answering.{MayAnswer}
 use Rattle.serve_workers.proofs.Placing.{firsts, seconds, zip_few, pushed, ready_pushed, new_at, first_at}
 use Rattle.serve_workers.proofs.hired.placed.Goals as goal
+
+pub loop-post-init : goal.loop-post-init
+loop-post-init g c =
+    let none = c.requires.room.0 in
+    record {
+      doors = ap (λ (l : List _). map (λ (w : _). w.door) l) none;
+      rules = ap (λ (l : List _). map (λ (w : _). w.rules) l) none;
+      passes = ap (λ (l : List _). map (λ (w : _). g.S.Seat.knows w.seat) l) none;
+      ready = λ k d lt. absurd (omega (arith, lt, ap length none));
+      says = λ k d lt. absurd (omega (arith, lt, ap length none));
+      many = c.requires.room.1;
+      number = omega arith;
+      room = c.requires.room.2;
+    }
+
+pub push_reserved-requires : goal.push_reserved-requires
+push_reserved-requires g c =
+    let a = c.into_iter.ensures in
+    let b = c.zip-post-items.ensures in
+    let d = c.into_iter-post-iterator.ensures.into_iter_gives in
+    let it = c.into_iter-post-iterator.result in
+    let posts = YieldsList-from_vec {s = it.a} c.args.posts.items (ap (λ z. z.a.rest.items) d ∙ ap (λ z. z.rest.items) b.first ∙ a.rest) (ap (λ z. z.a.rest.len) d ∙ ap (λ z. z.rest.len) b.first ∙ a.len ∙ c.args.posts.ok.0) in
+    let passes = YieldsList-from_vec {s = it.b} c.args.passes.items (ap (λ z. z.b.rest.items) d ∙ b.second.0) (ap (λ z. z.b.rest.len) d ∙ b.second.1 ∙ c.args.passes.ok.0) in
+    let turn = YieldsList-turn (YieldsList-from_zip {s = it} posts passes) c.loop-post.yielded c.loop-post.post-iterator c.loop-post.yielded_by c.next.result c.next.new.self (c.in-Some.post, c.in-Some.pass) c.in-Some.is c.next.ensures.steps in
+    omega (arith, turn.0, zip_few c.args.posts.items c.args.passes.items, c.args.posts.ok.0, c.loop-post.invariant.many, c.loop-post.invariant.room)
 
 pub overflow_add-number : goal.overflow_add-number
 overflow_add-number g c =
@@ -82,3 +107,9 @@ returns-clause-passes g c =
     let passes = YieldsList-from_vec {s = it.b} c.args.passes.items (ap (λ z. z.b.rest.items) d ∙ b.second.0) (ap (λ z. z.b.rest.len) d ∙ b.second.1 ∙ c.args.passes.ok.0) in
     let end = YieldsList-end (YieldsList-from_zip {s = it} posts passes) c.loop-post.yielded c.loop-post.post-iterator c.loop-post.yielded_by c.next.result c.next.new.self c.in-None.is c.next.ensures.steps in
     c.loop-post.invariant.passes ∙ seconds g.S.Seat.pass_knows c.loop-post.yielded c.args.posts.items c.args.passes.items end.0 (omega (arith, c.args.posts.ok.0, c.args.passes.ok.0, c.requires.many.0))
+
+pub returns-clause-says : goal.returns-clause-says
+returns-clause-says g c = c.loop-post.invariant.says
+
+pub returns-clause-ready : goal.returns-clause-ready
+returns-clause-ready g c = c.loop-post.invariant.ready
