@@ -1,0 +1,10 @@
+pub mod StepLaws
+pub mod FrameLaws
+pub mod RunLaws
+pub mod ReasonLaws
+pub mod OneReason
+pub mod ScanLaws
+pub mod ReadingLaws
+pub mod WriteLaws
+pub mod RunningLaws
+pub mod WindowLaws

@@ -1,0 +1,9 @@
+pub mod Spelling
+pub mod Reason
+pub mod Reading
+pub mod Machine
+pub mod Places
+pub mod Scanning
+pub mod Running
+pub mod Lending
+pub mod Why

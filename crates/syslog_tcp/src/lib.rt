@@ -1,0 +1,33 @@
+//! Messages of syslog over TCP by octet counting, as RFC 6587, section 3.4.1, lays them out:
+//! `MSG-LEN SP MSG`, a decimal length without leading zeros and so many bytes. A window takes the
+//! stream in pieces, cut anywhere, keeps its bytes in a room of fixed length and lends its messages
+//! one by one; a reader does the same with messages of their own; a writer appends a message.
+//!
+//! The one contract is the grammar's. Whatever the pieces, the messages taken, the place of the
+//! unfinished message and the fault are those of the bytes joined; the fault stands at the first
+//! byte that begins no list of messages. What was written is read again, whatever follows it.
+#![tactic(auto)]
+
+mod fault;
+mod laws;
+mod limits;
+mod message;
+mod phase;
+mod reader;
+mod room;
+mod run;
+mod scan;
+mod why;
+mod window;
+mod write;
+
+pub use fault::{OctetFault, OctetWhy};
+pub use laws::{
+    one_reading, one_reason, one_spelling, reason_is_fault, some_reading, spells_once,
+    written_is_read, written_spells,
+};
+pub use limits::{MOST_TEXT, ROOM};
+pub use message::MessageRef;
+pub use reader::OctetReader;
+pub use window::OctetWindow;
+pub use write::write_message;
