@@ -4,9 +4,10 @@ use Rattle.std.proofs.lemmas.Bool.{ltb-true, eqb-true, eqb-false, lt-ltb, le-leb
 use Rattle.std.specs.Char.{digit_value}
 use Rattle.std.specs.Str.Parse.{digits_value_after}
 use Rattle.syslog_tcp.specs.declared.limits.TheConstants.{MOST_TEXT}
+use Rattle.syslog_tcp.specs.declared.fault.OctetWhy.{OctetWhy}
 use Rattle.syslog_tcp.specs.declared.fault.OctetWhy.TheVariants.{Digits, Space, TooLong}
-use Rattle.stream_grammar.specs.Automaton.{Goes, Ends, Fails, After}
-use Rattle.syslog_tcp.specs.Machine.{InLength, InText, more_digits, step, TextEnds, AreDigits, LengthEnds, Completes}
+use Rattle.stream_grammar.specs.Automaton.{Step, Goes, Ends, Fails, After}
+use Rattle.syslog_tcp.specs.Machine.{State, InLength, InText, more_digits, step, TextEnds, AreDigits, LengthEnds, Completes}
 use Rattle.syslog_tcp.specs.Spelling.{BeginsAboveZero}
 
 -- more digits make no smaller number
@@ -75,7 +76,7 @@ pub back_text : (left : ℕ) (text f : List ℕ) (c : ℕ) (b : List ℕ) → 0 
 unfolding step
 back_text left text f c b m a = go (eqb left 1) refl a
   where
-    go : (p : Bool) → eqb left 1 ≡ p → After Completes (cond p (Ends (text ++ c ∷ [])) (Goes (InText (left - 1) (text ++ c ∷ [])))) f b → TextEnds left text f (c ∷ b)
+    go : (p : Bool) → eqb left 1 ≡ p → After Completes (cond {A = Step State (List ℕ) OctetWhy} p (Ends (text ++ c ∷ [])) (Goes (InText (left - 1) (text ++ c ∷ [])))) f b → TextEnds left text f (c ∷ b)
     go true dp a =
         let z : left ≡ 1 = eqb-true left 1 dp in
         record { some = m; count = omega (arith, z, ap length a.1); text_is = a.0 ∙ ap (λ v. text ++ c ∷ v) (sym a.1) }
