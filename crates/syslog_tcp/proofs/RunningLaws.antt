@@ -82,10 +82,10 @@ finds_whole bytes at n e =
     let q : s.spelt ≡ o.0 = o.3 ∙ ap (λ v. o.0 ++ v) o.4 ∙ append-nil o.0 in
     let z : 0 + at ≡ at = omega arith in
     let t : take m (drop (0 + at) bytes) ≡ drop at x =
-        ap (λ j. take m (drop j bytes)) z
-        ∙ ap (λ v. take m (drop at v)) (sym (take-append-drop n bytes))
-        ∙ ap (take m) (drop-append-le at x more (omega (arith, k, l)))
-        ∙ take_at (drop at x) more m (omega (arith, k, l, length-drop at x)) in
+    ap (λ j. take m (drop j bytes)) z
+    ∙ ap (λ v. take m (drop at v)) (sym (take-append-drop n bytes))
+    ∙ ap (take m) (drop-append-le at x more (omega (arith, k, l)))
+    ∙ take_at (drop at x) more m (omega (arith, k, l, length-drop at x)) in
     record {
       text = x;
       more = more;

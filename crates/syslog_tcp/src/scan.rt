@@ -28,12 +28,7 @@ pub struct Scanned {
 }
 
 /// Reads a piece after the bytes held of an unfinished message, to its end or to the first fault.
-pub fn scan(
-    alloc: Global,
-    held: &[u8],
-    phase: Phase,
-    piece: &[u8],
-) -> Result<Scanned, AllocError>
+pub fn scan(alloc: Global, held: &[u8], phase: Phase, piece: &[u8]) -> Result<Scanned, AllocError>
     requires fits { Fits phase (length held.now) }
     requires runs { run step start held.now ≡ Going (state_of phase held.now) }
     ensures { IfOk result (λ s. Scans held.now piece.now s) }
