@@ -8,3 +8,6 @@ pub mod ReadingLaws
 pub mod WriteLaws
 pub mod RunningLaws
 pub mod WindowLaws
+pub mod LineMachine
+pub mod LineLaws
+pub mod LineScans

@@ -27,7 +27,8 @@ use Rattle.syslog_tcp.proofs.ReasonLaws.{reason_of, unfinished_short}
 use Rattle.syslog_tcp.proofs.RunLaws.{run_text, run_whole}
 use Rattle.syslog_tcp.proofs.WriteLaws.{spelling_fits}
 
-join_byte : (held piece spelt rest : List ℕ) (i : ℕ) → i < length piece → held ++ take i piece ≡ spelt ++ rest → held ++ take (i + 1) piece ≡ spelt ++ (rest ++ get_or piece i 0 ∷ [])
+-- a byte more of what was read
+pub join_byte : (held piece spelt rest : List ℕ) (i : ℕ) → i < length piece → held ++ take i piece ≡ spelt ++ rest → held ++ take (i + 1) piece ≡ spelt ++ (rest ++ get_or piece i 0 ∷ [])
 join_byte held piece spelt rest i l joined = ap (λ v. held ++ v) (take_more piece i 0 l) ∙ sym (append_assoc held (take i piece) (get_or piece i 0 ∷ [])) ∙ ap (λ v. v ++ get_or piece i 0 ∷ []) joined ∙ append_assoc spelt rest (get_or piece i 0 ∷ [])
 
 -- a byte with which the message goes on

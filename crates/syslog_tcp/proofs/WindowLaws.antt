@@ -1,19 +1,11 @@
--- What a window holds and answers after a piece.
+-- What a window holds and answers after a piece, for any layout.
 use Rattle.std.proofs.Common.{◌≡◌, ℕ, ◌+◌, ◌-◌, ◌≤◌, ◌∙◌, List, ◌++◌, Option, Some, None, Result, Ok, Err, length, take, drop, refl, sym, ap, subst, arith, length-drop}
 use Rattle.std.specs.Prelude.{MatchOption}
 use Rattle.std.proofs.Math.Seq.{take-append-add}
-use Rattle.syslog_tcp.specs.declared.limits.TheConstants.{ROOM}
-use Rattle.syslog_tcp.specs.declared.fault.OctetFault.{OctetFault}
-use Rattle.syslog_tcp.specs.declared.fault.OctetWhy.{OctetWhy}
-use Rattle.syslog_tcp.specs.declared.run.Judged.{Judged}
-use Rattle.stream_grammar.specs.Reading.{Window, Feeds, ReadsOn, taken_of}
-use Rattle.stream_grammar.specs.Splitting.{Judges}
-use Rattle.stream_grammar.proofs.Splitting.{window_on, window_fault}
+use Rattle.stream_grammar.specs.Reading.{Format, Window, Feeds, ReadsOn, taken_of}
+use Rattle.stream_grammar.specs.Splitting.{Judges, Layout}
+use Rattle.stream_grammar.proofs.Splitting.{Laws, window_on, window_fault}
 use Rattle.stream_grammar.proofs.Windows.{take_held}
-use Rattle.syslog_tcp.specs.Reading.{fault_of, octets}
-use Rattle.syslog_tcp.specs.Scanning.{layout}
-use Rattle.syslog_tcp.specs.Spelling.{IsSpelling}
-use Rattle.syslog_tcp.proofs.ScanLaws.{octet_splits}
 
 -- the bytes of a piece before a fault, after those held, are so many of both
 pub kept_bytes : (bytes d : List ℕ) (from whole used : ℕ) (x : List ℕ) → d ≡ bytes → from ≤ whole → whole ≤ length bytes → drop from bytes ++ take used x ≡ take (whole - from + (length (take (length d - whole) (drop whole d)) + used)) (drop from bytes ++ x)
@@ -21,20 +13,21 @@ kept_bytes bytes d from whole used x same o i =
     let n : length (drop from bytes) + used ≡ whole - from + (length (take (length d - whole) (drop whole d)) + used) = omega (arith, ap length (take_held bytes d whole same), length-drop from bytes, length-drop whole bytes) in
     sym (take-append-add (drop from bytes) x used) ∙ ap (λ k. take k (drop from bytes ++ x)) n
 
--- What a call leaves that takes so much of a piece, and answers that, or the fault.
-pub fed : (old new : Window OctetFault) (piece : List ℕ) (n before place : ℕ) (j : Judged) (r : Result ℕ OctetFault) (k : Judges layout (old.rest ++ take n piece) j.end before j.phase j.fault) → n ≡ taken_of ROOM old piece → old.fault ≡ None → place ≡ old.at + before
-    → new.whole ≡ old.whole ++ k.splits.spelt → new.at ≡ old.at + j.end → new.rest ≡ k.splits.rest → MatchOption j.fault (new.fault ≡ None) (λ why. new.fault ≡ Some (record { at = place; why = why })) → MatchOption new.fault (r ≡ Ok n) (λ e. r ≡ Err e)
-    → Feeds octets IsSpelling ROOM old piece r new
-fed old new piece n before place j r k taken none placed front at back some answer = go j.fault refl some
-  where
-    P : Result ℕ OctetFault → Type 0
-    P z = Feeds octets IsSpelling ROOM old piece z new
+module _ {F P W E : Type 0} {p : Format F E} {l : Layout F P W} {fault_of : ℕ → W → E} (laws : Laws p l fault_of) where
+  -- What a call leaves that takes so much of a piece, and answers that, or the fault.
+  pub fed : (old new : Window E) (piece : List ℕ) (n end before place : ℕ) (now : P) (stop : Option W) (r : Result ℕ E) (k : Judges l (old.rest ++ take n piece) end before now stop) → n ≡ taken_of l.room old piece → old.fault ≡ None → place ≡ old.at + before
+      → new.whole ≡ old.whole ++ k.splits.spelt → new.at ≡ old.at + end → new.rest ≡ k.splits.rest → MatchOption stop (new.fault ≡ None) (λ why. new.fault ≡ Some (fault_of place why)) → MatchOption new.fault (r ≡ Ok n) (λ e. r ≡ Err e)
+      → Feeds p l.Spells l.room old piece r new
+  fed old new piece n end before place now stop r k taken none placed front at back some answer = go stop refl some
+    where
+      G : Result ℕ E → Type 0
+      G z = Feeds p l.Spells l.room old piece z new
 
-    go : (f : Option OctetWhy) → j.fault ≡ f → MatchOption f (new.fault ≡ None) (λ why. new.fault ≡ Some (record { at = place; why = why })) → P r
-    go None q m =
-        let is : r ≡ Ok n = subst (λ z. MatchOption z (r ≡ Ok n) (λ e. r ≡ Err e)) m answer in
-        subst P (sym is) (taken, m, window_on octet_splits old new (take n piece) j.end before j.phase j.fault k none q front at back m)
-    go (Some why) q m =
-        let is : r ≡ Err (fault_of place why) = subst (λ z. MatchOption z (r ≡ Ok n) (λ e. r ≡ Err e)) m answer in
-        let on = window_fault octet_splits old new (take n piece) j.end before place j.phase j.fault why k none q front at back (omega (arith, placed, k.kept)) m in
-        subst P (sym is) (m, λ _. subst (λ z. ReadsOn octets IsSpelling old (take z piece) new) taken on)
+      go : (f : Option W) → stop ≡ f → MatchOption f (new.fault ≡ None) (λ why. new.fault ≡ Some (fault_of place why)) → G r
+      go None q m =
+          let is : r ≡ Ok n = subst (λ z. MatchOption z (r ≡ Ok n) (λ e. r ≡ Err e)) m answer in
+          subst G (sym is) (taken, m, window_on laws old new (take n piece) end before now stop k none q front at back m)
+      go (Some why) q m =
+          let is : r ≡ Err (fault_of place why) = subst (λ z. MatchOption z (r ≡ Ok n) (λ e. r ≡ Err e)) m answer in
+          let on = window_fault laws old new (take n piece) end before place now stop why k none q front at back (omega (arith, placed, k.kept)) m in
+          subst G (sym is) (m, λ _. subst (λ z. ReadsOn p l.Spells old (take z piece) new) taken on)

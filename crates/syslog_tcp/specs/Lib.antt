@@ -7,3 +7,8 @@ pub mod Scanning
 pub mod Running
 pub mod Lending
 pub mod Why
+pub mod Lines
+pub mod LineReading
+pub mod LineMachine
+pub mod LineRunning
+pub mod LineLending

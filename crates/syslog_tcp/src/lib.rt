@@ -3,6 +3,8 @@
 //! stream in pieces, cut anywhere, keeps its bytes in a room of fixed length and lends its messages
 //! one by one; a reader does the same with messages of their own; a writer appends a message.
 //!
+//! `LineWindow` and `write_line` do the same for messages by framing with LF, section 3.4.2.
+//!
 //! The one contract is the grammar's. Whatever the pieces, the messages taken, the place of the
 //! unfinished message and the fault are those of the bytes joined; the fault stands at the first
 //! byte that begins no list of messages. What was written is read again, whatever follows it.
@@ -11,6 +13,7 @@
 mod fault;
 mod laws;
 mod limits;
+mod lines;
 mod message;
 mod phase;
 mod reader;
@@ -27,6 +30,10 @@ pub use laws::{
     written_is_read, written_spells,
 };
 pub use limits::{MOST_TEXT, ROOM};
+pub use lines::{
+    LineFault, LineRef, LineWhy, LineWindow, line_is_read, line_reason_is_fault, line_spells,
+    line_spells_once, lines_have_one_reading, lines_have_some_reading, write_line,
+};
 pub use message::MessageRef;
 pub use reader::OctetReader;
 pub use window::OctetWindow;

@@ -1,4 +1,6 @@
 //! Streams in pieces of each size.
+pub(crate) mod lines;
+mod lines_rows;
 pub(crate) mod lumber;
 mod lumber_read;
 mod lumber_rows;

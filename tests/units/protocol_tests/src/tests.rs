@@ -11,6 +11,8 @@ fn streams_sessions_and_senders(rt: HostRuntime) {
     streams::lumber::limits(&rt, alloc);
     streams::lumber::full(&rt, alloc);
     streams::lumber::frames(&rt, alloc);
+    streams::lines::streams(&rt, alloc);
+    streams::lines::longest_lines(&rt, alloc);
     streams::octets::streams(&rt, alloc);
     streams::octets::longest_texts(&rt, alloc);
     receiving::relp::sessions(&rt, alloc);
