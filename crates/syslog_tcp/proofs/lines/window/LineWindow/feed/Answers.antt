@@ -29,6 +29,22 @@ invariant_of-self c =
     let s = shifts line_splits b (vec_capacity i.bytes) i.from i.whole i.at tt i.fault piece d c.held.result n j.end before tt j.fault c.shift_in.new.bytes.items w c.deref.ensures.value holds c.min-taken.ensures c.judge-judged.ensures.judges is limit in
     fills_on line_splits b (vec_capacity i.bytes) i.from i.whole i.at tt i.fault piece n j.end before tt j.fault c.shift_in.new.bytes.items (vec_capacity c.shift_in.new.bytes) w s c.shift_in.ensures.capacity
 
+pub returns-clause-rest : goal.returns-clause-rest
+returns-clause-rest c =
+    let i = c.self.inside in
+    let j = c.judge-judged.result in
+    let piece = c.args.piece.now in
+    let n = c.min-taken.result in
+    let b = i.bytes.items in
+    let d = c.deref.result.now in
+    let w = c.self.invariant in
+    let before = length (take (length d - i.whole) (drop i.whole d)) + j.used in
+    let holds : c.held.result ≡ length b - i.from = c.held.ensures.count ∙ ap (λ (z : Window LineFault). held_of z) (sym c.self.view_is) ∙ parts_held b i.from i.whole w.order w.inside in
+    let limit : i.at + length (drop i.whole b) + length piece ≤ 2 ^ 40 = rw (← c.self.view_is) at c.requires in
+    let is = c.shift_in.ensures.items ∙ kept_bytes b d i.from i.whole j.used (take n piece) c.deref.ensures.value w.order w.inside in
+    let s = shifts line_splits b (vec_capacity i.bytes) i.from i.whole i.at tt i.fault piece d c.held.result n j.end before tt j.fault c.shift_in.new.bytes.items w c.deref.ensures.value holds c.min-taken.ensures c.judge-judged.ensures.judges is limit in
+    omega (arith, ap length s.back, s.judges.splits.unfinished.few)
+
 pub returns-clause-feeds : goal.returns-clause-feeds
 returns-clause-feeds c =
     let i = c.self.inside in
