@@ -1,5 +1,5 @@
 -- The laws of the machine that reads one message.
-use Rattle.std.proofs.Common.{◌≡◌, ℕ, ◌+◌, ◌-◌, ◌*◌, ◌<◌, ◌≤◌, Bool, true, false, cond, eqb, ltb, leb, List, [], ◌∷◌, ◌++◌, refl, sym, ap, ◌∙◌, ◌↔◌, suc, zero, lit<, replicate, subst, length, arith}
+use Rattle.std.proofs.Common.{◌≡◌, ℕ, ◌-◌, ◌<◌, ◌≤◌, Bool, true, false, cond, eqb, ltb, leb, List, [], ◌∷◌, ◌++◌, refl, sym, ap, ◌∙◌, ◌↔◌, suc, zero, lit<, replicate, subst, length, arith}
 use Rattle.std.proofs.lemmas.Bool.{leb-true, eqb-false}
 use Rattle.std.proofs.lemmas.List.{length-replicate}
 use Rattle.std.specs.Char.{digit_value}

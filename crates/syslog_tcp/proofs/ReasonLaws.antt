@@ -11,7 +11,6 @@ use Rattle.syslog_tcp.specs.declared.limits.TheConstants.{MOST_TEXT, ROOM}
 use Rattle.syslog_tcp.specs.declared.fault.OctetWhy.{OctetWhy}
 use Rattle.syslog_tcp.specs.declared.fault.OctetWhy.TheVariants.{Digits, Space, TooLong}
 use Rattle.syslog_tcp.specs.declared.phase.Phase.{Phase}
-use Rattle.syslog_tcp.specs.declared.phase.Phase.TheVariants.{Length, Text}
 use Rattle.stream_grammar.specs.Automaton.{Step, Goes, Ends, Fails, Going, run}
 use Rattle.stream_grammar.proofs.Machine.{along}
 use Rattle.syslog_tcp.specs.Machine.{State, InLength, InText, more_digits, step, start}

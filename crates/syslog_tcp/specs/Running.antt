@@ -1,5 +1,5 @@
 -- What a run over bytes read, without building a message.
-use Rattle.std.specs.Prelude.{◌≡◌, ℕ, ◌+◌, ◌-◌, ◌<◌, ◌≤◌, List, [], ◌∷◌, ◌++◌, length, take, drop, slice_range, Some}
+use Rattle.std.specs.Prelude.{◌≡◌, ℕ, ◌+◌, ◌-◌, ◌<◌, ◌≤◌, List, [], ◌∷◌, ◌++◌, length, drop, slice_range, Some}
 use Rattle.syslog_tcp.specs.declared.phase.Phase.{Phase}
 use Rattle.syslog_tcp.specs.declared.phase.Phase.TheVariants.{Length}
 use Rattle.syslog_tcp.specs.declared.run.Ran.{Ran}

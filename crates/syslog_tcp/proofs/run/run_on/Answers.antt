@@ -1,6 +1,6 @@
 -- A run goes on by a byte of the length, or by all that is there of the text.
 use Rattle.std.proofs.Common.{◌≡◌, ◌+◌, ◌-◌, length, sym, subst, arith}
-use Rattle.syslog_tcp.specs.declared.phase.Phase.TheVariants.{Length, Text}
+use Rattle.syslog_tcp.specs.declared.phase.Phase.TheVariants.{Length}
 use Rattle.syslog_tcp.specs.Running.{RunsTo}
 use Rattle.syslog_tcp.proofs.RunningLaws.{runs_go, runs_text, runs_whole}
 use Rattle.syslog_tcp.proofs.run.run_on.Goals as goal

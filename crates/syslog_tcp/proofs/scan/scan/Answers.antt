@@ -1,5 +1,5 @@
 -- Each run goes on after the messages that were read.
-use Rattle.std.proofs.Common.{◌≡◌, ◌+◌, ◌-◌, ◌++◌, ◌∷◌, ◌∙◌, [], length, ap, refl, sym, subst, arith}
+use Rattle.std.proofs.Common.{◌≡◌, ◌+◌, ◌++◌, ◌∷◌, ◌∙◌, [], length, ap, refl, sym, subst, arith}
 use Rattle.std.specs.Prelude.{slice_range}
 use Rattle.syslog_tcp.specs.declared.phase.Phase.TheVariants.{Length}
 use Rattle.syslog_tcp.specs.Scanning.{Scan}
