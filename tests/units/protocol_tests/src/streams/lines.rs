@@ -79,7 +79,7 @@ pub(crate) fn longest_lines(rt: &impl Abort, alloc: Global) {
     };
     for count in 1..18 {
         let (out, at, found, held) = read(rt, alloc, longer.as_slice(), count * 8192);
-        assert!(rt; out.as_slice() == b"one\n" && at == Some(4));
+        assert!(rt; out.as_slice() == b"one\n".as_slice() && at == Some(4));
         assert!(rt; found == Some(fault) && held == 131_072);
     }
 }
