@@ -13,8 +13,8 @@ use Rattle.spool_state.proofs.Laws.{one_state, stands_unbroken}
 use Rattle.conn_serve.proofs.Acting.{none_by}
 use Rattle.forward_core.specs.Protocols.{settings_as}
 use Rattle.forward_core.specs.declared.outward.Outward.{Outward}
-use Rattle.forward_core.specs.declared.sent.Sent.{Sent}
-use Rattle.forward_core.specs.declared.sent.Sent.TheVariants as Ending
+use Rattle.sending.specs.declared.sent.Sent.{Sent}
+use Rattle.sending.specs.declared.sent.Sent.TheVariants as Ending
 use Rattle.forward_core.proofs.Counting.{left_count}
 use Rattle.bridge_words.specs.declared.command.Command.TheVariants.{Drain}
 use Rattle.notes.specs.declared.note.Note.{Note}

@@ -20,7 +20,7 @@ use Rattle.desk_access.proofs.Added.{AllWritten}
 use Rattle.spool_turns.specs.Replays.{MayMake}
 use Rattle.forward_core.specs.Calls.{AreOfSession, next_after}
 use Rattle.forward_core.specs.declared.outward.Outward.{Outward}
-use Rattle.forward_core.specs.declared.sent.Sent.{Sent}
+use Rattle.sending.specs.declared.sent.Sent.{Sent}
 use Rattle.notes.specs.declared.note.Note.{Note}
 use Rattle.bridge_parts.specs.Opened.{desk_in, IsUnopened}
 use Rattle.bridge_serve.specs.Opened.{IsOpenedOnly}

@@ -10,7 +10,7 @@ use Rattle.spool_log.specs.declared.fault.RecoverFault.{RecoverFault}
 use Rattle.spool_log.specs.declared.fault.RecoverFault.TheVariants as Recover
 use Rattle.spool_log.specs.declared.opening.Opening.TheVariants.{Raise}
 use Rattle.spool_log.specs.Opening.{CanOpen, IsRefusedAs}
-use Rattle.forward_core.specs.declared.sent.Sent.TheVariants as Ending
+use Rattle.sending.specs.declared.sent.Sent.TheVariants as Ending
 use Rattle.serve_forwarder.specs.declared.looking.Outcome.{Outcome}
 use Rattle.serve_forwarder.specs.declared.looking.Outcome.TheVariants as outcome
 use Rattle.bridge_words.specs.declared.command.Command.TheVariants.{Serve}

@@ -8,7 +8,7 @@ use Rattle.spool_state.specs.SpoolState.{SpoolState}
 use Rattle.spool_state.specs.Image.{StandsFor}
 use Rattle.spool_state.specs.Left.{left}
 use Rattle.forward_core.specs.Protocols.{settings_as}
-use Rattle.forward_core.specs.Settings.{Settings}
+use Rattle.sending.specs.Settings.{Settings}
 use Rattle.bridge_words.specs.declared.command.Command.TheVariants.{Drain}
 use Rattle.notes.specs.declared.note.Note.{Note}
 use Rattle.notes.specs.declared.note.Note.TheVariants.{Fine, NoMemory}

@@ -6,7 +6,7 @@ use Rattle.spool_state.specs.Image.{StandsFor}
 use Rattle.spool_faults.specs.declared.fault.PendFault.TheVariants as unread
 use Rattle.spool_log.specs.declared.opening.Opening.TheVariants.{Raise}
 use Rattle.spool_log.specs.Opening.{CanOpen}
-use Rattle.forward_core.specs.declared.sent.Sent.TheVariants as sent
+use Rattle.sending.specs.declared.sent.Sent.TheVariants as sent
 use Rattle.serve_forwarder.specs.declared.looking.Outcome.{Outcome}
 use Rattle.serve_forwarder.specs.declared.looking.Outcome.TheVariants.{Unread, Held}
 use Rattle.bridge_words.specs.declared.command.Command.TheVariants.{Serve}

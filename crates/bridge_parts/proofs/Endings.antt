@@ -1,7 +1,7 @@
 -- Which ending of a session a note comes from.
 use Rattle.std.proofs.Common.{◌≡◌, refl}
-use Rattle.forward_core.specs.declared.sent.Sent.{Sent}
-use Rattle.forward_core.specs.declared.sent.Sent.TheVariants as Ending
+use Rattle.sending.specs.declared.sent.Sent.{Sent}
+use Rattle.sending.specs.declared.sent.Sent.TheVariants as Ending
 use Rattle.notes.specs.declared.note.Note.{Note}
 use Rattle.bridge_parts.specs.Refused.{note_of_sent}
 

@@ -4,8 +4,8 @@ use Rattle.std.specs.Prelude.{Ok, Err}
 use Rattle.desk_access.specs.Call.{Call, failures_of, failures_in, pends, marks}
 use Rattle.forward_core.specs.Calls.{AreGranted, AreOfSession, next_after}
 use Rattle.forward_core.specs.Session.{EndsBy, EndsRefused, IsRefusedWith}
-use Rattle.forward_core.specs.declared.sent.Sent.{Sent}
-use Rattle.forward_core.specs.declared.sent.Sent.TheVariants as Ending
+use Rattle.sending.specs.declared.sent.Sent.{Sent}
+use Rattle.sending.specs.declared.sent.Sent.TheVariants as Ending
 use Rattle.spool_faults.specs.declared.fault.PendFault.TheVariants as Pend
 use Rattle.spool_faults.specs.declared.fault.ConfirmFault.TheVariants as Confirm
 

@@ -6,8 +6,8 @@ use Rattle.spool_faults.specs.declared.fault.PendFault.{PendFault}
 use Rattle.spool_faults.specs.declared.fault.PendFault.TheVariants as Pend
 use Rattle.edge_io.specs.declared.net_fault.NetFault.{NetFault}
 use Rattle.edge_io.specs.declared.net_fault.NetFault.TheVariants as Net
-use Rattle.forward_core.specs.declared.sent.Sent.{Sent}
-use Rattle.forward_core.specs.declared.sent.Sent.TheVariants as Sending
+use Rattle.sending.specs.declared.sent.Sent.{Sent}
+use Rattle.sending.specs.declared.sent.Sent.TheVariants as Sending
 
 -- the note of the same name, for a device that was not opened
 abbrev pub note_of_recover : RecoverFault → Note

@@ -14,8 +14,8 @@ use Rattle.desk_access.specs.Desk.{DeskState}
 use Rattle.desk_access.specs.Journal.{failures_then}
 use Rattle.conn_serve.specs.Endings.{CountsFaults}
 use Rattle.conn_serve.proofs.Faults.{counts_none}
-use Rattle.forward_core.specs.declared.sent.Sent.{Sent}
-use Rattle.forward_core.specs.declared.sent.Sent.TheVariants as Ending
+use Rattle.sending.specs.declared.sent.Sent.{Sent}
+use Rattle.sending.specs.declared.sent.Sent.TheVariants as Ending
 use Rattle.desk_seats.specs.Passes.{Known}
 use Rattle.serve_workers.specs.declared.worker.WorkerEnd.{WorkerEnd}
 use Rattle.serve_workers.specs.declared.worker.WorkerEnd.TheVariants as worker

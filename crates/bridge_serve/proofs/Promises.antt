@@ -16,8 +16,8 @@ use Rattle.desk_access.specs.Desk.{DeskState, Goes}
 use Rattle.desk_access.proofs.Nexts.{all_right}
 use Rattle.conn_serve.specs.declared.rules.Rules.{Rules}
 use Rattle.forward_core.specs.Protocols.{settings_as}
-use Rattle.forward_core.specs.declared.sent.Sent.{Sent}
-use Rattle.forward_core.specs.declared.sent.Sent.TheVariants as Ending
+use Rattle.sending.specs.declared.sent.Sent.{Sent}
+use Rattle.sending.specs.declared.sent.Sent.TheVariants as Ending
 use Rattle.desk_seats.specs.Passes.{Known, Stands}
 use Rattle.serve_workers.proofs.Placing.{new_last}
 use Rattle.serve_forwarder.specs.declared.destination.Destination.{Destination}

@@ -18,7 +18,7 @@ use Rattle.desk_access.specs.History.{AddsAll, Grows}
 use Rattle.desk_access.specs.Legal.{of_conn}
 use Rattle.forward_core.specs.Protocols.{HintsAs}
 use Rattle.forward_core.specs.declared.outward.Outward.{Outward}
-use Rattle.forward_core.specs.declared.sent.Sent.TheVariants.{PeerClosed}
+use Rattle.sending.specs.declared.sent.Sent.TheVariants.{PeerClosed}
 use Rattle.spool_turns.specs.Whole.{OpensLegal}
 use Rattle.serve_workers.specs.Served.{RisesBy}
 use Rattle.serve_forwarder.specs.declared.destination.Destination.{Destination}

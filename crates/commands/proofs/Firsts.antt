@@ -1,8 +1,8 @@
 -- A line that is printed after a session.
 use Rattle.std.proofs.Common.{◌≡◌, ℕ, List, refl}
 use Rattle.conn_serve.specs.Endings.{CountsFaults}
-use Rattle.forward_core.specs.declared.sent.Sent.{Sent}
-use Rattle.forward_core.specs.declared.sent.Sent.TheVariants as Ending
+use Rattle.sending.specs.declared.sent.Sent.{Sent}
+use Rattle.sending.specs.declared.sent.Sent.TheVariants as Ending
 use Rattle.notes.specs.declared.note.Note.{Note}
 use Rattle.bridge_parts.specs.Refused.{note_of_sent}
 use Rattle.bridge_parts.specs.Run.{OutputRun}

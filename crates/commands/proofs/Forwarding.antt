@@ -21,10 +21,10 @@ use Rattle.spool_log.specs.State.{View, view, IsIn}
 use Rattle.desk_access.specs.Call.{Call}
 use Rattle.desk_access.specs.Desk.{Stood}
 use Rattle.forward_core.specs.Forwarded as sending
-use Rattle.forward_core.specs.Turning.{IsHalt}
+use Rattle.sending.specs.Turning.{IsHalt}
 use Rattle.forward_core.specs.declared.outward.Outward.{Outward}
-use Rattle.forward_core.specs.declared.sent.Sent.{Sent}
-use Rattle.forward_core.specs.declared.sent.Sent.TheVariants as Ending
+use Rattle.sending.specs.declared.sent.Sent.{Sent}
+use Rattle.sending.specs.declared.sent.Sent.TheVariants as Ending
 use Rattle.conn_serve.specs.Endings.{CountsFaults}
 use Rattle.conn_serve.proofs.Faults.{counts_none}
 use Rattle.notes.specs.declared.note.Note.{Note}

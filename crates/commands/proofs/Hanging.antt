@@ -8,10 +8,10 @@ use Rattle.edge_io.specs.Told.{Adds}
 use Rattle.edge_io.specs.declared.net_fault.NetFault.{NetFault}
 use Rattle.edge_io.specs.declared.net_fault.NetFault.TheVariants as Dial
 use Rattle.forward_core.specs.Forwarded as sending
-use Rattle.forward_core.specs.Turning.{IsHalt}
+use Rattle.sending.specs.Turning.{IsHalt}
 use Rattle.forward_core.specs.declared.outward.Outward.{Outward}
-use Rattle.forward_core.specs.declared.sent.Sent.{Sent}
-use Rattle.forward_core.specs.declared.sent.Sent.TheVariants as Ending
+use Rattle.sending.specs.declared.sent.Sent.{Sent}
+use Rattle.sending.specs.declared.sent.Sent.TheVariants as Ending
 use Rattle.notes.specs.declared.note.Note.{Note}
 use Rattle.bridge_parts.specs.Refused.{note_of_net, note_of_sent}
 use Rattle.commands.specs.Drained.{HasNotDialed}

@@ -6,7 +6,7 @@ use Rattle.forward_core.specs.Calls.{AreOfSession}
 use Rattle.forward_core.specs.Laws.{IsOnDesk, KnowsMarked}
 use Rattle.forward_core.specs.Protocols.{settings_as}
 use Rattle.forward_core.specs.declared.outward.Outward.{Outward}
-use Rattle.forward_core.specs.declared.sent.Sent.{Sent}
+use Rattle.sending.specs.declared.sent.Sent.{Sent}
 use Rattle.forward_core.proofs.SendsLaw.{sends_left}
 use Rattle.forward_core.proofs.AfterLaw.{only_marked_known}
 use Rattle.forward_core.proofs.DropLaw.{told_is_gone}

@@ -8,8 +8,8 @@ use Rattle.desk_access.specs.Journal.{failed_by}
 use Rattle.desk_access.specs.Desk.{DeskState}
 use Rattle.spool_desk.specs.Alone.{AloneView, IsAt, Ran, HasSeen, LeadsFrom}
 use Rattle.forward_core.specs.Forwarded.{Asked}
-use Rattle.forward_core.specs.declared.sent.Sent.{Sent}
-use Rattle.forward_core.specs.declared.sent.Sent.TheVariants as Ending
+use Rattle.sending.specs.declared.sent.Sent.{Sent}
+use Rattle.sending.specs.declared.sent.Sent.TheVariants as Ending
 use Rattle.bridge_parts.specs.Opened.{desk_in}
 use Rattle.bridge_parts.proofs.Failures.{Failed}
 use Rattle.bridge_parts.specs.Pending.{pending_in}

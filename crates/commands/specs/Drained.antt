@@ -12,11 +12,11 @@ use Rattle.spool_log.specs.declared.fault.RecoverFault.{RecoverFault}
 use Rattle.desk_access.specs.Call.{Call}
 use Rattle.spool_answers.specs.Stages.{IsOneOf}
 use Rattle.desk_access.specs.Desk.{DeskState, Stood}
-use Rattle.forward_core.specs.declared.sent.Sent.{Sent}
-use Rattle.forward_core.specs.declared.sent.Sent.TheVariants as Sending
+use Rattle.sending.specs.declared.sent.Sent.{Sent}
+use Rattle.sending.specs.declared.sent.Sent.TheVariants as Sending
 use Rattle.forward_core.specs.Forwarded.{Forwards}
 use Rattle.forward_core.specs.Laws.{EndsOver, KnowsMarked, DropsTold}
-use Rattle.forward_core.specs.Turning.{IsHalt}
+use Rattle.sending.specs.Turning.{IsHalt}
 use Rattle.forward_core.specs.Protocols.{EndsAs, HintsAs, settings_as}
 use Rattle.forward_core.specs.declared.outward.Outward.{Outward}
 use Rattle.notes.specs.declared.note.Note.{Note}

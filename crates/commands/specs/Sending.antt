@@ -4,7 +4,7 @@ use Rattle.edge_disk.specs.declared.disk.Disk.{Ghosts as Disks}
 use Rattle.edge_io.specs.Net.{IsHungUp}
 use Rattle.edge_io.specs.Told.{Adds, IsDialed, IsFresh}
 use Rattle.forward_core.specs.declared.outward.Outward.{Outward}
-use Rattle.forward_core.specs.declared.sent.Sent.{Sent}
+use Rattle.sending.specs.declared.sent.Sent.{Sent}
 use Rattle.notes.specs.declared.note.Note.{Note}
 use Rattle.bridge_words.specs.Lines.{drain_line}
 use Rattle.spool_state.specs.SpoolState.{SpoolState, end}

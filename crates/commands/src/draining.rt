@@ -3,9 +3,9 @@ ghost use Rattle.std.specs.Prelude.{◌≡◌, ◌≢◌, ◌≤◌, ◌<◌, �
 ghost use Rattle.edge_disk.specs.Calls.{Calls};
 ghost use Rattle.spool_answers.specs.Leave.{LetsKeep};
 ghost use Rattle.spool_log.specs.Memory.{cursor_of, end_of};
-ghost use Rattle.forward_core.specs.Forwarded as sending;
-ghost use Rattle.forward_core.specs.Turning.{IsHalt};
-ghost use Rattle.forward_core.specs.declared.sent.Sent.TheVariants as Ending;
+ghost use Rattle.forward_core.specs.Forwarded as forwards;
+ghost use Rattle.sending.specs.Turning.{IsHalt};
+ghost use Rattle.sending.specs.declared.sent.Sent.TheVariants as Ending;
 ghost use Rattle.conn_serve.specs.Endings.{CountsFaults};
 ghost use Rattle.notes.specs.declared.note.Note.TheVariants.{Usage, WrongLength, ReadFault};
 ghost use Rattle.commands.specs.Answered.{WasRead};
@@ -17,7 +17,7 @@ ghost use Rattle.commands.specs.SpoolRun.{spool_over};
 ghost use Rattle.commands.specs.Told.{disk_over, input_over, link_over, output_over};
 
 use crate::finished::Finished;
-use crate::sending::{Sending, is_idle, send};
+use crate::sends::{Sending, is_idle, send};
 use bridge_parts::{recover_note, sent_note};
 use edge_disk::Disk;
 use edge_io::{Both, Net, Pause, Sink, Source};
@@ -42,8 +42,8 @@ fn send_both<D: Disk, S: Source, K: Sink, Z: Pause>(
         (WereStreamed (WasRead S.same S.given input.old) (WasWritten K.same K.taken output.old)) D.may_release }
 
     ensures calls { Calls (result.sent ≡ Ending.DiskFault) (D.moment spool.disk) (D.moment result.spool.disk) }
-    ensures reads { sending.CountsFaults (result.sent ≡ Ending.ReadFault) (S.read_faults input.old) (S.read_faults input.new) }
-    ensures writes { sending.CountsWrites (result.sent ≡ Ending.WriteFault) (IsHalt result.sent) (K.write_faults output.old) (K.write_faults output.new) }
+    ensures reads { forwards.CountsFaults (result.sent ≡ Ending.ReadFault) (S.read_faults input.old) (S.read_faults input.new) }
+    ensures writes { forwards.CountsWrites (result.sent ≡ Ending.WriteFault) (IsHalt result.sent) (K.write_faults output.old) (K.write_faults output.new) }
     ensures paused { Z.pause_apart rest.old rest.new }
     ensures session { IsSession outward.now (link_over S.Source.own K.Sink.own input.old input.new output.old output.new)
         (SendsOver spool result.spool) result.sent }

@@ -14,7 +14,7 @@ mod listing;
 mod loading;
 mod placing;
 mod replaying;
-mod sending;
+mod sends;
 mod streams;
 
 pub use draining::drain_out;

@@ -18,7 +18,7 @@ ghost use Rattle.commands.specs.SpoolRun.{spool_over};
 ghost use Rattle.commands.specs.Told.{disk_over, output_over};
 
 use crate::finished::Finished;
-use crate::sending::{Sending, is_idle, send};
+use crate::sends::{Sending, is_idle, send};
 use bridge_parts::{first_of, net_note, pending_count, recover_note, sent_note};
 use bridge_words::drain_line;
 use edge_disk::Disk;

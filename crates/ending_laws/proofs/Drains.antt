@@ -18,9 +18,9 @@ use Rattle.forward_core.specs.Calls.{AreGranted, entries_of}
 use Rattle.forward_core.specs.Laws.{EndsOver, IsOnDesk}
 use Rattle.forward_core.specs.Protocols.{EndsAs, HintsAs}
 use Rattle.forward_core.specs.Session.{Ended}
-use Rattle.forward_core.specs.Settings.{Settings}
-use Rattle.forward_core.specs.declared.sent.Sent.{Sent}
-use Rattle.forward_core.specs.declared.sent.Sent.TheVariants as Ending
+use Rattle.sending.specs.Settings.{Settings}
+use Rattle.sending.specs.declared.sent.Sent.{Sent}
+use Rattle.sending.specs.declared.sent.Sent.TheVariants as Ending
 use Rattle.forward_core.proofs.AfterLaw.{leaves_rest}
 use Rattle.forward_core.proofs.DropLaw.{told_is_gone}
 use Rattle.forward_core.proofs.KnownLaw.{known_after}

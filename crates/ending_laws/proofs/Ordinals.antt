@@ -26,8 +26,8 @@ use Rattle.forward_core.specs.Calls.{AreGranted, AreOfSession, next_after}
 use Rattle.forward_core.specs.Marking as marking
 use Rattle.forward_core.specs.Reading as reading
 use Rattle.forward_core.specs.Session.{EndsRefused, IsRefusedWith}
-use Rattle.forward_core.specs.declared.sent.Sent.{Sent}
-use Rattle.forward_core.specs.declared.sent.Sent.TheVariants as Ending
+use Rattle.sending.specs.declared.sent.Sent.{Sent}
+use Rattle.sending.specs.declared.sent.Sent.TheVariants as Ending
 use Rattle.bridge_parts.specs.Opened.{desk_in}
 use Rattle.bridge_parts.proofs.Desks.{desk_rules}
 use Rattle.bridge_parts.proofs.Failures.{granted_failures}

@@ -24,16 +24,16 @@ use Rattle.http_reply.specs.ReplyStream.{IsFaulty as IsReplyFaulty}
 use Rattle.http_edge.specs.declared.fault.HttpWhy.{HttpWhy}
 use Rattle.http_reply.specs.declared.reply.HttpReply.{HttpReply}
 use Rattle.conn_serve.specs.Front.{IsFront}
-use Rattle.forward_core.specs.Hec as hec
-use Rattle.forward_core.specs.Hec.{collector}
-use Rattle.forward_core.specs.Lumber as lumber
-use Rattle.forward_core.specs.Lumber.{lumberjack}
-use Rattle.forward_core.specs.Outlet.{Outlet, Ended, IsOpen}
+use Rattle.hec_sender.specs.Outlet as hec
+use Rattle.hec_sender.specs.Outlet.{collector}
+use Rattle.lumber_sender.specs.Outlet as lumber
+use Rattle.lumber_sender.specs.Outlet.{lumberjack}
+use Rattle.sending.specs.Outlet.{Outlet, Ended, IsOpen}
 use Rattle.forward_core.specs.Protocols.{EndsAs, HintsAs}
-use Rattle.forward_core.specs.Relp as relp
-use Rattle.forward_core.specs.Settings.{Settings}
-use Rattle.forward_core.specs.declared.sent.Sent.{Sent}
-use Rattle.forward_core.specs.declared.sent.Sent.TheVariants as Ending
+use Rattle.relp_sender.specs.Outlet as relp
+use Rattle.sending.specs.Settings.{Settings}
+use Rattle.sending.specs.declared.sent.Sent.{Sent}
+use Rattle.sending.specs.declared.sent.Sent.TheVariants as Ending
 use Rattle.ending_laws.specs.Draining.{AcknowledgesAll, PeerAcknowledges}
 use Rattle.ending_laws.proofs.Relp.{front_of_stream}
 

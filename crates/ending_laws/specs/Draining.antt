@@ -7,12 +7,12 @@ use Rattle.edge_io.specs.declared.proto.Proto.TheVariants.{Relp, Lumberjack, Hec
 use Rattle.spool_state.specs.SpoolState.{SpoolState}
 use Rattle.spool_state.specs.Image.{StandsFor}
 use Rattle.spool_state.specs.Left.{NumberedEntry, left}
-use Rattle.forward_core.specs.Hec.{collector}
-use Rattle.forward_core.specs.Lumber.{lumberjack}
-use Rattle.forward_core.specs.Outlet.{Outlet}
-use Rattle.forward_core.specs.Relp.{relp}
-use Rattle.forward_core.specs.Settings.{Settings}
-use Rattle.forward_core.specs.declared.sent.Sent.{Sent}
+use Rattle.hec_sender.specs.Outlet.{collector}
+use Rattle.lumber_sender.specs.Outlet.{lumberjack}
+use Rattle.sending.specs.Outlet.{Outlet}
+use Rattle.relp_sender.specs.Outlet.{relp}
+use Rattle.sending.specs.Settings.{Settings}
+use Rattle.sending.specs.declared.sent.Sent.{Sent}
 
 -- Whichever of the peer's frames were taken, as long as not all entries are acknowledged: these aren't all frames of its bytes, and
 -- what comes after them doesn't end the session. So its bytes acknowledge all entries before they end, have a fault or end the

@@ -8,14 +8,14 @@ use Rattle.edge_io.specs.declared.proto.Proto.TheVariants.{Relp, Lumberjack, Hec
 use Rattle.desk_access.specs.Call.{Call}
 use Rattle.forward_core.specs.Calls.{entries_of}
 use Rattle.forward_core.specs.Forwarded.{Forwards}
-use Rattle.forward_core.specs.Hec.{collector}
-use Rattle.forward_core.specs.Lumber.{lumberjack}
-use Rattle.forward_core.specs.Outlet.{Ended, Outlet}
+use Rattle.hec_sender.specs.Outlet.{collector}
+use Rattle.lumber_sender.specs.Outlet.{lumberjack}
+use Rattle.sending.specs.Outlet.{Ended, Outlet}
 use Rattle.forward_core.specs.Protocols.{EndsAs, HintsAs}
-use Rattle.forward_core.specs.Relp.{relp}
-use Rattle.forward_core.specs.Settings.{Settings}
-use Rattle.forward_core.specs.Turning.{IsTold}
-use Rattle.forward_core.specs.declared.sent.Sent.TheVariants as Ending
+use Rattle.relp_sender.specs.Outlet.{relp}
+use Rattle.sending.specs.Settings.{Settings}
+use Rattle.sending.specs.Turning.{IsTold}
+use Rattle.sending.specs.declared.sent.Sent.TheVariants as Ending
 
 none_told : (place : ℕ) → IsTold 0 [] place → ⊥
 none_told place told = elim told [ inl less ↦ absurd (omega (arith, less)) | inr c ↦ absurd (omega (arith, c.1)) ]

@@ -22,10 +22,10 @@ use Rattle.forward_core.specs.Laws.{DropsTold, EndsOver, IsOnDesk, KnowsMarked}
 use Rattle.forward_core.specs.Marking.{MarksTold}
 use Rattle.forward_core.specs.Protocols.{EndsAs, HintsAs}
 use Rattle.forward_core.specs.Session.{Ended, EndsBy, MarksBy}
-use Rattle.forward_core.specs.Settings.{Settings}
-use Rattle.forward_core.specs.Turning.{IsHalt, IsTold}
-use Rattle.forward_core.specs.declared.sent.Sent.{Sent}
-use Rattle.forward_core.specs.declared.sent.Sent.TheVariants as Ending
+use Rattle.sending.specs.Settings.{Settings}
+use Rattle.sending.specs.Turning.{IsHalt, IsTold}
+use Rattle.sending.specs.declared.sent.Sent.{Sent}
+use Rattle.sending.specs.declared.sent.Sent.TheVariants as Ending
 use Rattle.forward_core.proofs.AfterLaw.{leaves_rest, only_marked_known}
 use Rattle.forward_core.proofs.Counting.{none_above}
 use Rattle.forward_core.proofs.KnownLaw.{known_after}

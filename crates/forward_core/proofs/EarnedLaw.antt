@@ -15,8 +15,8 @@ use Rattle.forward_core.specs.Calls.{after_last, next_of, number_at, read_of}
 use Rattle.forward_core.specs.Laws.{AcknowledgedOver, IsOnDesk}
 use Rattle.forward_core.specs.Marking.{IsOfOne}
 use Rattle.forward_core.specs.Protocols.{EndsAs}
-use Rattle.forward_core.specs.Settings.{Settings}
-use Rattle.forward_core.specs.Turning.{IsTold}
+use Rattle.sending.specs.Settings.{Settings}
+use Rattle.sending.specs.Turning.{IsTold}
 use Rattle.forward_core.proofs.DropLaw.{list_rises}
 use Rattle.forward_core.proofs.Marks.{of_one_more}
 use Rattle.forward_core.proofs.Numbered.{after_first, after_joined, one_place}

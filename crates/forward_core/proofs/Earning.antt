@@ -11,14 +11,15 @@ use Rattle.forward_core.specs.Leave.{AreEarned, MayMark}
 use Rattle.forward_core.specs.Calls.{after_last}
 use Rattle.forward_core.specs.Forwarded.{Asked, until_by}
 use Rattle.forward_core.specs.Moments.{Told, told, Does, Leads}
-use Rattle.forward_core.specs.Session.{Agrees, MayEndBy, MayHalt, Stands}
-use Rattle.forward_core.specs.Turning.{IsCut, MayFollow}
+use Rattle.forward_core.specs.Session.{Agrees, Stands}
+use Rattle.sending.specs.Standing.{Standing}
+use Rattle.sending.specs.Tables.{AddsNothing, MayCut, MayEndBy, MayHalt, Table}
 use Rattle.forward_core.specs.declared.course.Course.{Course}
-use Rattle.forward_core.specs.declared.sent.Sent.{Sent}
-use Rattle.forward_core.specs.declared.sent.Sent.TheVariants as Ending
-use Rattle.forward_core.proofs.Endings.{Table, acknowledged}
+use Rattle.sending.specs.declared.sent.Sent.{Sent}
+use Rattle.sending.specs.declared.sent.Sent.TheVariants as Ending
+use Rattle.forward_core.proofs.Endings.{acknowledged}
 use Rattle.forward_core.proofs.Joining.{does_nothing, so_then}
-use Rattle.forward_core.proofs.Refilling.{halt_here, whole_of}
+use Rattle.forward_core.proofs.Refilling.{halt_here}
 use Rattle.forward_core.proofs.Standing.{History}
 use Rattle.forward_core.proofs.Turns.{quiet}
 
@@ -35,30 +36,30 @@ some_called Ends start end bytes (call ∷ calls) text n h = omega arith
 -- ---- want of memory before a turn's text was written
 
 -- the turn has none
-pub may_end_quiet : (Has Has' : History) (Ends : Table) (F : Type 0) (given told_now : ℕ) → MayHalt Has' Ends F given told_now → ((entries : List Entry) (fed out also : List ℕ) → Has entries fed out also → Has' entries fed out also)
-    → MayEndBy Has Ends F given told_now Ending.NoMemory
-may_end_quiet Has Has' Ends F given told_now may on entries more fed out also follow has =
-    halt_here Has' Ends F given told_now may Ending.NoMemory tt entries fed out also (on entries fed out also has) more follow
+pub may_end_quiet : (Has Has' : History) (Ends : Table) (st : Standing) → MayHalt Has' Ends st → AddsNothing Has Has'
+    → MayEndBy Has Ends st Ending.NoMemory
+may_end_quiet Has Has' Ends st may on entries more fed out also follow has =
+    halt_here Has' Ends st may Ending.NoMemory tt entries fed out also (on entries fed out also has) more follow
 
 -- it has this one
-pub may_end_unwritten : (Has Has' : History) (Ends : Table) (F : Type 0) (given told_now : ℕ) (text : List ℕ) → MayHalt Has' Ends F given told_now
+pub may_end_unwritten : (Has Has' : History) (Ends : Table) (st : Standing) (text : List ℕ) → MayHalt Has' Ends st
     → ((entries : List Entry) (fed out also : List ℕ) → Has entries fed out also → Has' entries fed (out ++ text) (also ++ []))
-    → ((entries more : List Entry) (fed out part rest also : List ℕ) (ending : Sent) → IsCut ending → MayFollow F given more → text ≡ part ++ rest → 0 < length rest → Has entries fed out also → Ends (entries ++ more) fed (out ++ part) told_now also ending)
-    → MayEndBy Has Ends F given told_now Ending.NoMemory
-may_end_unwritten Has Has' Ends F given told_now [] may on cuts = may_end_quiet Has Has' Ends F given told_now may (quiet Has Has' on)
-may_end_unwritten Has Has' Ends F given told_now (byte ∷ text) may on cuts = λ entries more fed out also follow has.
-    subst (λ (o : List ℕ). Ends (entries ++ more) fed o told_now also Ending.NoMemory) (append-nil out) (cuts entries more fed out [] (byte ∷ text) also Ending.NoMemory tt follow refl (omega arith) has)
+    → MayCut text Has Ends st
+    → MayEndBy Has Ends st Ending.NoMemory
+may_end_unwritten Has Has' Ends st [] may on cuts = may_end_quiet Has Has' Ends st may (quiet Has Has' on)
+may_end_unwritten Has Has' Ends st (byte ∷ text) may on cuts = λ entries more fed out also follow has.
+    subst (λ (o : List ℕ). Ends (entries ++ more) fed o st.told also Ending.NoMemory) (append-nil out) (cuts entries more fed out [] (byte ∷ text) also Ending.NoMemory tt follow refl (omega arith) has)
 
 -- ---- what may become known
 
 -- what is to be marked, where the session may end now for want of memory
 pub earned_now : {A L : Type 0} (ran : A → List Call → A → Type 0) (access : A) → ran access [] access → (same : L → L → Type 0) (tells : L → Told) (link : L) → same link link → (Release : ℕ → Type 0)
-    (Has : History) (Ends : Table) (F : Type 0) (given told_now first total : ℕ) (c : Course) → Agrees given told_now first F c → MayEndBy Has Ends F given told_now Ending.NoMemory
+    (Has : History) (Ends : Table) (st : Standing) (total : ℕ) (c : Course) → Agrees st c → MayEndBy Has Ends st Ending.NoMemory
     → MayMark ran access same tells link (λ n. Leads (Stands Has false total c) (λ start bytes calls text. IsAcknowledged Ends start c.end bytes calls text n)) Release → AreEarned c.marks.items Release
-earned_now ran access none same tells link is Release Has Ends F given told_now first total c agrees may leave n marked =
+earned_now ran access none same tells link is Release Has Ends st first total c agrees may leave n marked =
     leave access link n is (does_nothing (tells link) (λ calls. ran access calls access) (Stands Has false total c) (λ start bytes calls text. IsAcknowledged Ends start c.end bytes calls text n) none
     (λ start bytes before out s.
-    acknowledged Ends (λ b. ⊥) (tells link).left F Has false total c start bytes before out s given told_now agrees.told_is (λ f. (agrees.over f).1) (whole_of given told_now first F c agrees) bytes out
+    acknowledged Ends (λ b. ⊥) (tells link).left Has false total c start bytes before out s st agrees bytes out
     (λ more follow. may _ more bytes out s.also follow s.sent) n marked))
 
 -- what may become known at the start may become known after all that was done since

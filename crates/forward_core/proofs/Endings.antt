@@ -18,19 +18,19 @@ use Rattle.forward_core.specs.Calls.{AreGranted, AreOfSession, IsMarked, MarksBe
 use Rattle.forward_core.specs.Marking.{EndsSo, IsOfOne, MarksOnlyTold, MarksTold}
 use Rattle.forward_core.specs.Marking as marking
 use Rattle.forward_core.specs.Reading as reading
-use Rattle.forward_core.specs.Session.{Ended, EndsBy, IsToMark, MarksBy, Stands}
-use Rattle.forward_core.specs.Turning.{IsHalt, MayFollow}
+use Rattle.forward_core.specs.Session.{Agrees, Ended, EndsBy, IsToMark, MarksBy, Stands}
+use Rattle.sending.specs.Standing.{MayFollow, Standing}
+use Rattle.sending.specs.Tables as tables
+use Rattle.sending.specs.Tables.{Table}
+use Rattle.sending.specs.Turning.{IsHalt}
 use Rattle.forward_core.specs.declared.course.Course.{Course}
-use Rattle.forward_core.specs.declared.sent.Sent.{Sent}
-use Rattle.forward_core.specs.declared.sent.Sent.TheVariants as Ending
+use Rattle.sending.specs.declared.sent.Sent.{Sent}
+use Rattle.sending.specs.declared.sent.Sent.TheVariants as Ending
 use Rattle.forward_core.proofs.Batches.{reading_leads}
 use Rattle.forward_core.proofs.CallLists.{granted_then, low_then, marked_cases, next_then, read_then, session_then}
 use Rattle.forward_core.proofs.Desk.{next_marked, next_more, read_marked, read_more}
 use Rattle.forward_core.proofs.Marks.{marks_only, marks_told, only_marked, to_mark_low, to_mark_more, to_mark_those}
 use Rattle.forward_core.proofs.Numbered.{numbered_then}
-
-abbrev pub Table : Type 1
-Table = List Entry → List ℕ → List ℕ → ℕ → List ℕ → Sent → Type 0
 
 -- ---- the clauses that go by the ending
 
@@ -85,14 +85,18 @@ halt_open sent Closed halt is = absurd (subst IsHalt is halt)
 
 -- ---- what may follow
 
+-- entries that were given leave whole batches
+whole_of : (st : Standing) (c : Course) → Agrees st c → c.next < c.end → (q : ℕ) × (st.given ≡ 128 * q)
+whole_of st c a less = let q = a.whole less in (q.0, (let same : st.given ≡ 128 * q.0 = omega (arith, a.given_is, q.1) in same))
+
 -- entries from a number on and below the end follow those that have numbers below it
 pub all_rise : (start next end : ℕ) (read more : List Numbered) → start ≤ next → AreNumbered start next read → AreNumbered next end more → (bound : ℕ) × AreNumbered start bound (read ++ more)
 all_rise start next end read [] begun are rest = (next, subst (λ (l : List Numbered). AreNumbered start next l) (sym (append-nil read)) are)
 all_rise start next end read (x ∷ more) begun are rest = (end, numbered_then start next end read (x ∷ more) begun (omega (arith, rest.0, rest.1)) are rest)
 
-pub may_follow : (F : Type 0) (given next end : ℕ) (more : List Numbered) → (F → end ≤ next) → (next < end → (q : ℕ) × (given ≡ 128 * q)) → AreNumbered next end more → MayFollow F given (entries_of more)
-may_follow F given next end [] over whole are = record { none = λ f. refl; whole = λ some. absurd (omega arith) }
-may_follow F given next end (x ∷ more) over whole are = record { none = λ f. absurd (omega (arith, over f, are.0, are.1)); whole = λ some. whole (omega (arith, are.0, are.1)) }
+pub may_follow : (st : Standing) (next end : ℕ) (more : List Numbered) → (st.finished ≡ true → end ≤ next) → (next < end → (q : ℕ) × (st.given ≡ 128 * q)) → AreNumbered next end more → MayFollow st (entries_of more)
+may_follow st next end [] over whole are = record { none = λ f. refl; whole = λ some. absurd (omega arith) }
+may_follow st next end (x ∷ more) over whole are = record { none = λ f. absurd (omega (arith, over f, are.0, are.1)); whole = λ some. whole (omega (arith, are.0, are.1)) }
 
 -- ---- endings
 
@@ -119,12 +123,8 @@ ended_of Ends Hints left start end next told sent bytes text also calls read clo
   closed = closed;
 }
 
--- what the table says of the entries read and of those that follow
-pub Tabled : Table → List Entry → List ℕ → List ℕ → ℕ → List ℕ → Sent → Type 0 → ℕ → Type 0
-Tabled Ends entries bytes text told also sent F given = (more : List Entry) → MayFollow F given more → Ends (entries ++ more) bytes text told also sent
-
-module _ (Ends : Table) (Hints : List ℕ → Type 0) (left : Option (List ℕ)) (F : Type 0) (Has : List Entry → List ℕ → List ℕ → List ℕ → Type 0) (marked : Bool) (total : ℕ) (c : Course) (start : ℕ) (bytes : List ℕ) (calls : List Call) (text : List ℕ)
-    (s : Stands Has marked total c start bytes calls text) (given told : ℕ) (told_is : told ≡ c.told) (over : F → c.end ≤ c.next) (whole : c.next < c.end → (q : ℕ) × (given ≡ 128 * q)) (bytes' text' : List ℕ) where
+module _ (Ends : Table) (Hints : List ℕ → Type 0) (left : Option (List ℕ)) (Has : tables.Has) (marked : Bool) (total : ℕ) (c : Course) (start : ℕ) (bytes : List ℕ) (calls : List Call) (text : List ℕ)
+    (s : Stands Has marked total c start bytes calls text) (st : Standing) (agrees : Agrees st c) (bytes' text' : List ℕ) where
   told_few : c.told ≤ length (read_of c.end calls)
   told_few = omega (arith, c.counted, s.desk.count)
 
@@ -136,29 +136,29 @@ module _ (Ends : Table) (Hints : List ℕ → Type 0) (left : Option (List ℕ))
       low_then c.end 0 calls (marks c.marks.items answer ∷ []) s.desk.low
       (to_mark_low start c.next (read_of c.end calls) c.told s.also c.marks.items calls s.desk.rising told_few s.desk.marks, tt)
 
-  tabled : (sent : Sent) → ((more : List Entry) → MayFollow F given more → Ends (entries_of (read_of c.end calls) ++ more) bytes' text' told s.also sent) → (more : List Numbered) → AreNumbered c.next c.end more → Ends (entries_of (read_of c.end calls ++ more)) bytes' text' told s.also sent
+  tabled : (sent : Sent) → ((more : List Entry) → MayFollow st more → Ends (entries_of (read_of c.end calls) ++ more) bytes' text' st.told s.also sent) → (more : List Numbered) → AreNumbered c.next c.end more → Ends (entries_of (read_of c.end calls ++ more)) bytes' text' st.told s.also sent
   tabled sent table more are =
-      subst (λ (l : List Entry). Ends l bytes' text' told s.also sent) (sym (map-append (λ (one : Numbered). one.entry) (read_of c.end calls) more)) (table (entries_of more) (may_follow F given c.next c.end more over whole are))
+      subst (λ (l : List Entry). Ends l bytes' text' st.told s.also sent) (sym (map-append (λ (one : Numbered). one.entry) (read_of c.end calls) more)) (table (entries_of more) (may_follow st c.next c.end more (λ f. (agrees.over f).1) (whole_of st c agrees) are))
 
   -- what is to be marked is acknowledged
-  pub acknowledged : ((more : List Entry) → MayFollow F given more → Ends (entries_of (read_of c.end calls) ++ more) bytes' text' told s.also Ending.NoMemory) → (n : ℕ) → IsInSome c.marks.items n → IsAcknowledged Ends start c.end bytes' calls text' n
+  pub acknowledged : ((more : List Entry) → MayFollow st more → Ends (entries_of (read_of c.end calls) ++ more) bytes' text' st.told s.also Ending.NoMemory) → (n : ℕ) → IsInSome c.marks.items n → IsAcknowledged Ends start c.end bytes' calls text' n
   acknowledged table n is = record {
-    told = told;
+    told = st.told;
     also = s.also;
     session = s.desk.session;
     granted = s.desk.granted;
     low = s.desk.low;
     ends = λ more are. tabled Ending.NoMemory table more (subst (λ (k : ℕ). AreNumbered k c.end more) (sym s.desk.next) are);
-    number = subst (λ (k : ℕ). (n < after_last 0 (take k (read_of c.end calls))) ⊎ IsOfOne (read_of c.end calls) s.also n) (sym told_is)
+    number = subst (λ (k : ℕ). (n < after_last 0 (take k (read_of c.end calls))) ⊎ IsOfOne (read_of c.end calls) s.also n) (sym agrees.told_is)
         (to_mark_those (read_of c.end calls) c.told s.also c.marks.items calls n s.desk.marks is);
   }
 
   -- the session ends so, and what was told is marked
-  pub ended_marked : (sent : Sent) → (IsHalt sent → ⊥) → ((more : List Entry) → MayFollow F given more → Ends (entries_of (read_of c.end calls) ++ more) bytes' text' told s.also sent)
+  pub ended_marked : (sent : Sent) → (IsHalt sent → ⊥) → ((more : List Entry) → MayFollow st more → Ends (entries_of (read_of c.end calls) ++ more) bytes' text' st.told s.also sent)
       → (sent ≡ Ending.PeerClosed → IsAtEnd left ⊎ Hints bytes') → Ended Ends Hints left c.end sent start bytes' (calls ++ marks c.marks.items (Ok tt) ∷ []) text'
   ended_marked sent none table closed =
       let call : Call = marks c.marks.items (Ok tt) in
-      ended_of Ends Hints left start c.end c.next told sent bytes' text' s.also (calls ++ call ∷ []) (read_of c.end calls)
+      ended_of Ends Hints left start c.end c.next st.told sent bytes' text' s.also (calls ++ call ∷ []) (read_of c.end calls)
       (record {
         session = session_then c.end start calls (call ∷ []) s.desk.granted s.desk.session tt;
         low = low_marks (Ok tt);
@@ -169,18 +169,18 @@ module _ (Ends : Table) (Hints : List ℕ → Type 0) (left : Option (List ℕ))
       (granted_by sent (calls ++ call ∷ []) none (granted_then calls (call ∷ []) s.desk.granted tt))
       (tabled sent table)
       (λ more are. (let all = all_rise start c.next c.end (read_of c.end calls) more s.desk.begun s.desk.rising are in
-      subst (λ (n : ℕ). MarksBy sent (calls ++ call ∷ []) (read_of c.end calls ++ more) n s.also) (sym told_is)
+      subst (λ (n : ℕ). MarksBy sent (calls ++ call ∷ []) (read_of c.end calls ++ more) n s.also) (sym agrees.told_is)
       (marks_by sent (calls ++ call ∷ []) (read_of c.end calls ++ more) c.told s.also (marks_told start all.0 (read_of c.end calls ++ more) c.told s.also c.marks.items calls all.1 (to_mark_all more)))))
       closed
 
   -- the session halts after calls that mark no more than what was told, which were granted but for the last, or are none
   ended_halt : (sent : Sent) (last : List Call) → IsHalt sent → Close start c.end c.next (calls ++ last) (read_of c.end calls) → EndsBy sent (calls ++ last)
       → ((more : List Numbered) (n : ℕ) → IsMarked (calls ++ last) n → (n < after_last 0 (take c.told (read_of c.end calls ++ more))) ⊎ IsOfOne (read_of c.end calls ++ more) s.also n)
-      → ((more : List Entry) → MayFollow F given more → Ends (entries_of (read_of c.end calls) ++ more) bytes' text' told s.also sent) → Ended Ends Hints left c.end sent start bytes' (calls ++ last) text'
+      → ((more : List Entry) → MayFollow st more → Ends (entries_of (read_of c.end calls) ++ more) bytes' text' st.told s.also sent) → Ended Ends Hints left c.end sent start bytes' (calls ++ last) text'
   ended_halt sent last halt close refused only table =
-      ended_of Ends Hints left start c.end c.next told sent bytes' text' s.also (calls ++ last) (read_of c.end calls) close refused (tabled sent table)
+      ended_of Ends Hints left start c.end c.next st.told sent bytes' text' s.also (calls ++ last) (read_of c.end calls) close refused (tabled sent table)
       (λ more are. (let all = all_rise start c.next c.end (read_of c.end calls) more s.desk.begun s.desk.rising are in
-      subst (λ (n : ℕ). MarksBy sent (calls ++ last) (read_of c.end calls ++ more) n s.also) (sym told_is)
+      subst (λ (n : ℕ). MarksBy sent (calls ++ last) (read_of c.end calls ++ more) n s.also) (sym agrees.told_is)
       (marks_halt sent (calls ++ last) (read_of c.end calls ++ more) c.told s.also halt
       (marks_only start all.0 (read_of c.end calls ++ more) c.told s.also (calls ++ last) all.1 (only more)))))
       (λ is. halt_open sent (IsAtEnd left ⊎ Hints bytes') halt is)
@@ -190,7 +190,7 @@ module _ (Ends : Table) (Hints : List ℕ → Type 0) (left : Option (List ℕ))
   no_more last none more n m = elim (marked_cases calls last n m) [ inl a ↦ (to_mark_all more).only n a | inr b ↦ absurd (none n b) ]
 
   -- a mark was refused
-  pub ended_unmarked : (fault : ConfirmFault) → ((more : List Entry) → MayFollow F given more → Ends (entries_of (read_of c.end calls) ++ more) bytes' text' told s.also (marking.sent_by fault))
+  pub ended_unmarked : (fault : ConfirmFault) → ((more : List Entry) → MayFollow st more → Ends (entries_of (read_of c.end calls) ++ more) bytes' text' st.told s.also (marking.sent_by fault))
       → Ended Ends Hints left c.end (marking.sent_by fault) start bytes' (calls ++ marks c.marks.items (Err fault) ∷ []) text'
   ended_unmarked fault table =
       let call : Call = marks c.marks.items (Err fault) in
@@ -206,7 +206,7 @@ module _ (Ends : Table) (Hints : List ℕ → Type 0) (left : Option (List ℕ))
       (λ more. only_marked (read_of c.end calls ++ more) c.told s.also c.marks.items calls (Err fault) (to_mark_all more)) table
 
   -- no memory was found
-  pub ended_starved : ((more : List Entry) → MayFollow F given more → Ends (entries_of (read_of c.end calls) ++ more) bytes' text' told s.also Ending.NoMemory) → Ended Ends Hints left c.end Ending.NoMemory start bytes' calls text'
+  pub ended_starved : ((more : List Entry) → MayFollow st more → Ends (entries_of (read_of c.end calls) ++ more) bytes' text' st.told s.also Ending.NoMemory) → Ended Ends Hints left c.end Ending.NoMemory start bytes' calls text'
   ended_starved table =
       subst (λ (l : List Call). Ended Ends Hints left c.end Ending.NoMemory start bytes' l text') (append-nil calls)
       (ended_halt Ending.NoMemory [] tt
@@ -221,7 +221,7 @@ module _ (Ends : Table) (Hints : List ℕ → Type 0) (left : Option (List ℕ))
 
   -- a mark was answered Ok, or refused, which is the ending in place of the one that it was to be
   pub ended_so : (sent result : Sent) (call : Call) → (IsHalt sent → ⊥) → EndsSo c.marks.items sent call result
-      → ((halt : Sent) → (halt ≡ sent) ⊎ IsHalt halt → (more : List Entry) → MayFollow F given more → Ends (entries_of (read_of c.end calls) ++ more) bytes' text' told s.also halt)
+      → ((halt : Sent) → (halt ≡ sent) ⊎ IsHalt halt → (more : List Entry) → MayFollow st more → Ends (entries_of (read_of c.end calls) ++ more) bytes' text' st.told s.also halt)
       → (sent ≡ Ending.PeerClosed → IsAtEnd left ⊎ Hints bytes') → Ended Ends Hints left c.end result start bytes' (calls ++ call ∷ []) text'
   ended_so sent result call none so table closed = elim so [
     | inl fine ↦ subst (λ (r : Sent). Ended Ends Hints left c.end r start bytes' (calls ++ call ∷ []) text') (sym fine.1)
@@ -231,7 +231,7 @@ module _ (Ends : Table) (Hints : List ℕ → Type 0) (left : Option (List ℕ))
   ]
 
   -- a reading was refused
-  pub ended_unread : (fault : PendFault) → marked ≡ true → c.next < c.end → ((more : List Entry) → MayFollow F given more → Ends (entries_of (read_of c.end calls) ++ more) bytes' text' told s.also (reading.sent_by fault))
+  pub ended_unread : (fault : PendFault) → marked ≡ true → c.next < c.end → ((more : List Entry) → MayFollow st more → Ends (entries_of (read_of c.end calls) ++ more) bytes' text' st.told s.also (reading.sent_by fault))
       → Ended Ends Hints left c.end (reading.sent_by fault) start bytes' (calls ++ pends c.next (asked_from c.end c.next) (Err fault) ∷ []) text'
   ended_unread fault first more_to_read table =
       let call : Call = pends c.next (asked_from c.end c.next) (Err fault) in
@@ -247,14 +247,14 @@ module _ (Ends : Table) (Hints : List ℕ → Type 0) (left : Option (List ℕ))
 
   -- entries were read, and no memory was found to give them
   pub ended_ungiven : (listed : List Numbered) → marked ≡ true → c.next < c.end → AreNumbered 0 (2 ^ 63) listed → length listed ≤ asked_from c.end c.next
-      → ((more : List Entry) → MayFollow F given more → Ends (entries_of (read_of c.end calls) ++ more) bytes' text' told s.also Ending.NoMemory)
+      → ((more : List Entry) → MayFollow st more → Ends (entries_of (read_of c.end calls) ++ more) bytes' text' st.told s.also Ending.NoMemory)
       → Ended Ends Hints left c.end Ending.NoMemory start bytes' (calls ++ pends c.next (asked_from c.end c.next) (Ok listed) ∷ []) text'
   ended_ungiven listed first more_to_read are_listed few table =
       let call : Call = pends c.next (asked_from c.end c.next) (Ok listed) in
       let w = within c.next c.end listed in
       let leads = reading_leads c.next c.end listed more_to_read are_listed few in
       let after = next_after c.end c.next listed in
-      ended_of Ends Hints left start c.end after told Ending.NoMemory bytes' text' s.also (calls ++ call ∷ []) (read_of c.end calls ++ w)
+      ended_of Ends Hints left start c.end after st.told Ending.NoMemory bytes' text' s.also (calls ++ call ∷ []) (read_of c.end calls ++ w)
       (record {
         session = session_then c.end start calls (call ∷ []) s.desk.granted s.desk.session (s.desk.next, subst (λ (n : ℕ). n < c.end) s.desk.next more_to_read, ap (λ (n : ℕ). asked_from c.end n) s.desk.next, tt);
         low = low_then c.end 0 calls (call ∷ []) s.desk.low tt;
@@ -264,10 +264,10 @@ module _ (Ends : Table) (Hints : List ℕ → Type 0) (left : Option (List ℕ))
       })
       (inr (granted_then calls (call ∷ []) s.desk.granted tt))
       (λ more are. (let rest : AreNumbered c.next c.end (w ++ more) = numbered_then c.next after c.end w more (omega (arith, leads.later)) leads.within leads.rising are in
-      subst (λ (l : List Numbered). Ends (entries_of l) bytes' text' told s.also Ending.NoMemory) (sym (append_assoc (read_of c.end calls) w more)) (tabled Ending.NoMemory table (w ++ more) rest)))
+      subst (λ (l : List Numbered). Ends (entries_of l) bytes' text' st.told s.also Ending.NoMemory) (sym (append_assoc (read_of c.end calls) w more)) (tabled Ending.NoMemory table (w ++ more) rest)))
       (λ more are. (let rest : AreNumbered c.next c.end (w ++ more) = numbered_then c.next after c.end w more (omega (arith, leads.later)) leads.within leads.rising are in
       let all = all_rise start c.next c.end (read_of c.end calls) (w ++ more) s.desk.begun s.desk.rising rest in
-      subst (λ (n : ℕ). MarksBy Ending.NoMemory (calls ++ call ∷ []) ((read_of c.end calls ++ w) ++ more) n s.also) (sym told_is)
+      subst (λ (n : ℕ). MarksBy Ending.NoMemory (calls ++ call ∷ []) ((read_of c.end calls ++ w) ++ more) n s.also) (sym agrees.told_is)
       (subst (λ (l : List Numbered). MarksBy Ending.NoMemory (calls ++ call ∷ []) l c.told s.also) (sym (append_assoc (read_of c.end calls) w more))
       (marks_only start all.0 (read_of c.end calls ++ (w ++ more)) c.told s.also (calls ++ call ∷ []) all.1
       (λ n m. elim (marked_cases calls (call ∷ []) n m) [ inl a ↦ (to_mark_all (w ++ more)).only n a | inr b ↦ absurd b ])))))

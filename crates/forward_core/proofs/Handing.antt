@@ -1,6 +1,7 @@
 -- A batch is counted and given.
 use Rattle.std.proofs.Common.{◌≡◌, ℕ, ◌+◌, ◌-◌, ◌*◌, ◌<◌, ◌≤◌, ◌^◌, Bool, false, cond, List, ◌++◌, length, All, ap, ◌∙◌, sym, subst, inr, arith}
 use Rattle.std.specs.Prelude.{nat_lt, Result, Ok, Err, OnOk, is_err}
+use Rattle.std.proofs.lemmas.Bool.{false≢true}
 use Rattle.std.proofs.lemmas.List.{length-map}
 use Rattle.event_form.specs.Event.{IsEvent}
 use Rattle.event_form.specs.declared.event.Entry.{Entry}
@@ -10,6 +11,7 @@ use Rattle.forward_core.specs.Calls.{asked_from, within}
 use Rattle.forward_core.specs.Course.{reading_left}
 use Rattle.forward_core.specs.Reading.{Added, AddsBatch, IsBatch}
 use Rattle.forward_core.specs.Session.{Agrees}
+use Rattle.sending.specs.Standing.{Gave, Standing}
 use Rattle.forward_core.specs.declared.course.Course.{Course}
 use Rattle.forward_core.specs.declared.refill.Batch.{Batch}
 use Rattle.forward_core.proofs.Batches.{events_of, numbers_below, reading_leads, within_fewer, within_rising}
@@ -85,14 +87,14 @@ ok_by (Ok x) P p is = p
 ok_by (Err e) P p is = cc
 
 -- what the sender counts agrees with the course after a batch was given
-pub agrees_given : (old new : Course) (batch : Batch) (given given' told told' first first' : ℕ) (F F' : Type 0) → Counted old new batch → new.told ≡ old.told → new.over ≡ old.over → (F → ⊥) → Agrees given told first F old
-    → given' ≡ given + length batch.entries.items → told' ≡ told → first' + given ≡ old.given → (F' → F) → Agrees given' told' first' F' new
-agrees_given old new batch given given' told told' first first' F F' c same_told same_over unfinished a g t f on = record {
-  given_is = omega (arith, g, c.given, a.given_is);
-  told_is = t ∙ a.told_is ∙ sym same_told;
-  first_is = λ some. omega (arith, f, a.given_is);
-  over = λ is. absurd (unfinished (on is));
-  done = λ is. absurd (unfinished (a.done (sym same_over ∙ is)));
+pub agrees_given : (old new : Course) (batch : Batch) (st st' : Standing) (count : ℕ) → Counted old new batch → new.told ≡ old.told → new.over ≡ old.over → st.finished ≡ false → Agrees st old
+    → count ≡ length batch.entries.items → Gave old.given count st st' → Agrees st' new
+agrees_given old new batch st st' count c same_told same_over unfinished a many g = record {
+  given_is = omega (arith, g.given, many, c.given, a.given_is);
+  told_is = g.told ∙ a.told_is ∙ sym same_told;
+  first_is = λ some. omega (arith, g.first, a.given_is);
+  over = λ is. absurd (false≢true (sym unfinished ∙ sym g.finished ∙ is));
+  done = λ is. absurd (false≢true (sym unfinished ∙ a.done (sym same_over ∙ is)));
   whole = λ less. (let before = a.whole (omega (arith, less, c.later, c.end)) in let all = c.whole less in (before.0 + 1, (let sum : new.given ≡ 128 * (before.0 + 1) = omega (arith, before.1, all, c.given) in sum)));
   few = omega (arith, a.few, c.given, c.count);
   fewer = omega (arith, a.few, c.given, c.count, c.within);

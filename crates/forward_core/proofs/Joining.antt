@@ -8,7 +8,7 @@ use Rattle.desk_access.specs.Call.{Call}
 use Rattle.forward_core.specs.Moments.{Told, told, Does, Calls, Fact, Leads, LeadsBy}
 use Rattle.forward_core.specs.Forwarded.{Forwards}
 use Rattle.forward_core.specs.Session.{Ended}
-use Rattle.forward_core.specs.declared.sent.Sent.{Sent}
+use Rattle.sending.specs.declared.sent.Sent.{Sent}
 
 -- one step, and then another
 pub does_then : (was now next : Told) (first second both : List Call → Type 0) (From Mid To : Fact) → ((xs ys : List Call) → first xs → second ys → both (xs ++ ys))

@@ -13,10 +13,6 @@ pub mod Listening
 pub mod Turns
 pub mod Earning
 pub mod Running
-pub mod Ends
-pub mod RelpEnding
-pub mod LumberEnding
-pub mod HecEnding
 pub mod Beginning
 pub mod KnownLaw
 pub mod Rest

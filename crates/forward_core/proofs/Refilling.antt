@@ -14,25 +14,23 @@ use Rattle.forward_core.specs.Marking.{MarksSo}
 use Rattle.forward_core.specs.Marking as marking
 use Rattle.forward_core.specs.Moments.{Calls, Fact, LeadsBy}
 use Rattle.forward_core.specs.Reading.{sent_by}
-use Rattle.forward_core.specs.Session.{Agrees, Ended, MayHalt, Stands}
-use Rattle.forward_core.specs.Turning.{IsHalt, MayFollow}
+use Rattle.forward_core.specs.Session.{Agrees, Ended, Stands}
+use Rattle.sending.specs.Standing.{MayFollow, Standing}
+use Rattle.sending.specs.Tables.{MayHalt, Table}
+use Rattle.sending.specs.Turning.{IsHalt}
 use Rattle.forward_core.specs.declared.course.Course.{Course}
-use Rattle.forward_core.specs.declared.sent.Sent.{Sent}
-use Rattle.forward_core.specs.declared.sent.Sent.TheVariants as Ending
-use Rattle.forward_core.proofs.Endings.{Table, ended_ungiven, ended_unmarked, ended_unread, halts_mark, halts_read}
+use Rattle.sending.specs.declared.sent.Sent.{Sent}
+use Rattle.sending.specs.declared.sent.Sent.TheVariants as Ending
+use Rattle.forward_core.proofs.Endings.{ended_ungiven, ended_unmarked, ended_unread, halts_mark, halts_read}
 use Rattle.forward_core.proofs.Standing.{History, stands_marked}
 
 -- a halt where no byte more was read
-pub halt_here : (Has : History) (Ends : Table) (F : Type 0) (given told : ℕ) → MayHalt Has Ends F given told → (sent : Sent) → IsHalt sent → (entries : List Entry) (fed out also : List ℕ) → Has entries fed out also
-    → (more : List Entry) → MayFollow F given more → Ends (entries ++ more) fed out told also sent
-halt_here Has Ends F given told may sent halt entries fed out also has more follow =
-    subst (λ (b : List ℕ). Ends (entries ++ more) b out told also sent) (append-nil fed) (may entries more fed [] out also sent halt follow has)
+pub halt_here : (Has : History) (Ends : Table) (st : Standing) → MayHalt Has Ends st → (sent : Sent) → IsHalt sent → (entries : List Entry) (fed out also : List ℕ) → Has entries fed out also
+    → (more : List Entry) → MayFollow st more → Ends (entries ++ more) fed out st.told also sent
+halt_here Has Ends st may sent halt entries fed out also has more follow =
+    subst (λ (b : List ℕ). Ends (entries ++ more) b out st.told also sent) (append-nil fed) (may entries more fed [] out also sent halt follow has)
 
--- the numbers of entries given leave whole batches
-pub whole_of : (given told first : ℕ) (F : Type 0) (c : Course) → Agrees given told first F c → c.next < c.end → (q : ℕ) × (given ≡ 128 * q)
-whole_of given told first F c a less = let q = a.whole less in (q.0, (let same : given ≡ 128 * q.0 = omega (arith, a.given_is, q.1) in same))
-
-module _ (Has : History) (Ends : Table) (Hints : List ℕ → Type 0) (F : Type 0) (given told first : ℕ) (c : Course) (agrees : Agrees given told first F c) (may : MayHalt Has Ends F given told) where
+module _ (Has : History) (Ends : Table) (Hints : List ℕ → Type 0) (st : Standing) (c : Course) (agrees : Agrees st c) (may : MayHalt Has Ends st) where
   pub refused_by : (ran : List Call → Type 0) (most : ℕ) (fault : PendFault) → most ≡ asked_from c.end c.next → c.next < c.end → ran (pends c.next most (Err fault) ∷ [])
       → IsHalt (sent_by fault) × Calls ran (λ calls. (total : ℕ) (left : Option (List ℕ)) → LeadsBy (Stands Has true total c) (Ended Ends Hints left c.end (sent_by fault)) calls)
   refused_by ran most fault is more made = (
@@ -41,8 +39,8 @@ module _ (Has : History) (Ends : Table) (Hints : List ℕ → Type 0) (F : Type 
       calls = pends c.next (asked_from c.end c.next) (Err fault) ∷ [];
       made = subst (λ (n : ℕ). ran (pends c.next n (Err fault) ∷ [])) is made;
       is = λ total left start bytes before out s.
-          ended_unread Ends Hints left F Has true total c start bytes before out s given told agrees.told_is (λ f. (agrees.over f).1) (whole_of given told first F c agrees) bytes out fault refl more
-          (halt_here Has Ends F given told may (sent_by fault) (halts_read fault) _ bytes out s.also s.sent);
+          ended_unread Ends Hints left Has true total c start bytes before out s st agrees bytes out fault refl more
+          (halt_here Has Ends st may (sent_by fault) (halts_read fault) _ bytes out s.also s.sent);
     },
   )
 
@@ -54,8 +52,8 @@ module _ (Has : History) (Ends : Table) (Hints : List ℕ → Type 0) (F : Type 
       calls = pends c.next (asked_from c.end c.next) (Ok listed) ∷ [];
       made = subst (λ (n : ℕ). ran (pends c.next n (Ok listed) ∷ [])) is made;
       is = λ total left start bytes before out s.
-          ended_ungiven Ends Hints left F Has true total c start bytes before out s given told agrees.told_is (λ f. (agrees.over f).1) (whole_of given told first F c agrees) bytes out listed refl more are (omega (arith, few, is))
-          (halt_here Has Ends F given told may Ending.NoMemory tt _ bytes out s.also s.sent);
+          ended_ungiven Ends Hints left Has true total c start bytes before out s st agrees bytes out listed refl more are (omega (arith, few, is))
+          (halt_here Has Ends st may Ending.NoMemory tt _ bytes out s.also s.sent);
     },
   )
 
@@ -75,13 +73,13 @@ leads_marked Has total old mid To more ms same to start bytes before out s =
     (to start bytes (before ++ marks old.marks.items (Ok tt) ∷ []) out (stands_marked Has false total old mid start bytes before out ms same s))
 
 -- a mark was refused
-pub unmarked_by : (Has : History) (Ends : Table) (Hints : List ℕ → Type 0) (F : Type 0) (given told first : ℕ) (c : Course) → Agrees given told first F c → MayHalt Has Ends F given told
+pub unmarked_by : (Has : History) (Ends : Table) (Hints : List ℕ → Type 0) (st : Standing) (c : Course) → Agrees st c → MayHalt Has Ends st
     → (sent : Sent) (call : Call) (total : ℕ) (left : Option (List ℕ)) → MarksSo c.marks.items call (Err sent) → LeadsBy (Stands Has false total c) (Ended Ends Hints left c.end sent) (call ∷ [])
-unmarked_by Has Ends Hints F given told first c agrees may sent call total left so start bytes before out s =
+unmarked_by Has Ends Hints st c agrees may sent call total left so start bytes before out s =
     subst (λ (r : Sent). Ended Ends Hints left c.end r start bytes (before ++ call ∷ []) out) (sym so.2)
     (subst (λ (one : Call). Ended Ends Hints left c.end (marking.sent_by so.0) start bytes (before ++ one ∷ []) out) (sym so.1)
-    (ended_unmarked Ends Hints left F Has false total c start bytes before out s given told agrees.told_is (λ f. (agrees.over f).1) (whole_of given told first F c agrees) bytes out so.0
-    (halt_here Has Ends F given told may (marking.sent_by so.0) (halts_mark so.0) _ bytes out s.also s.sent)))
+    (ended_unmarked Ends Hints left Has false total c start bytes before out s st agrees bytes out so.0
+    (halt_here Has Ends st may (marking.sent_by so.0) (halts_mark so.0) _ bytes out s.also s.sent)))
 
 pub halts_so : (stretches : List Stretch) (call : Call) (sent : Sent) → MarksSo stretches call (Err sent) → IsHalt sent
 halts_so stretches call sent so = subst IsHalt (sym so.2) (halts_mark so.0)

@@ -1,11 +1,13 @@
 -- A session from its start on.
 use Rattle.std.proofs.Common.{◌≡◌, ℕ, false, List, [], ◌∷◌, length, take, drop, refl, ap, ◌∙◌, sym, arith}
+use Rattle.std.proofs.lemmas.Bool.{false≢true}
 use Rattle.std.proofs.lemmas.List.{nil_from_length}
 use Rattle.known_numbers.specs.declared.stretch.Stretch.{Stretch}
 use Rattle.spool_answers.specs.declared.numbered.Numbered.{Numbered}
 use Rattle.forward_core.specs.Calls.{after_last}
 use Rattle.forward_core.specs.Course.{below}
 use Rattle.forward_core.specs.Session.{Agrees, IsToMark, Stands}
+use Rattle.sending.specs.Standing.{IsUnused, Standing}
 use Rattle.forward_core.specs.declared.course.Course.{Course}
 use Rattle.forward_core.proofs.Standing.{History}
 
@@ -46,12 +48,12 @@ stands_start Has c given ms sent =
       };
     }
 
-pub agrees_start : (given told first : ℕ) (F : Type 0) (c : Course) → c.given ≡ 0 → c.over ≡ false → given ≡ 0 → told ≡ 0 → (F → ⊥) → Agrees given told first F c
-agrees_start given told first F c none over g t unfinished = record {
-  given_is = omega (arith, g, none);
-  told_is = omega (arith, t, c.counted, none);
+pub agrees_start : (st : Standing) (c : Course) → c.given ≡ 0 → c.over ≡ false → IsUnused st → Agrees st c
+agrees_start st c none over u = record {
+  given_is = omega (arith, u.given, none);
+  told_is = omega (arith, u.told, c.counted, none);
   first_is = λ some. absurd (omega (arith, some, none));
-  over = λ f. absurd (unfinished f);
+  over = λ f. absurd (false≢true (sym u.finished ∙ f));
   done = λ is. absurd (cc);
   whole = λ less. (0, none);
   few = omega (arith, none);

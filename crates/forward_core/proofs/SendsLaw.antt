@@ -11,8 +11,8 @@ use Rattle.forward_core.specs.Calls.{next_of, read_of}
 use Rattle.forward_core.specs.Laws.{EndsOver, IsOnDesk}
 use Rattle.forward_core.specs.Protocols.{EndsAs, HintsAs}
 use Rattle.forward_core.specs.Session.{Ended}
-use Rattle.forward_core.specs.Settings.{Settings}
-use Rattle.forward_core.specs.declared.sent.Sent.{Sent}
+use Rattle.sending.specs.Settings.{Settings}
+use Rattle.sending.specs.declared.sent.Sent.{Sent}
 use Rattle.forward_core.proofs.Rest.{as_given, left_rise, splits_left}
 
 -- what holds of the state's own numbers and the calls of the records holds of those that are given

@@ -15,16 +15,18 @@ use Rattle.forward_core.specs.Calls.{entries_of, read_of}
 use Rattle.forward_core.specs.Course.{TellsFirst, TellsOne}
 use Rattle.forward_core.specs.Marking.{EndsSo, MarksOnlyTold}
 use Rattle.forward_core.specs.Moments.{Told, told, Does, Fact, Leads}
-use Rattle.forward_core.specs.Session.{Agrees, Ended, MayHalt, Stands}
-use Rattle.forward_core.specs.Turning.{IsCut, IsEndingBy, IsHalt, MayFollow, also_of}
-use Rattle.forward_core.specs.Turning as turning
+use Rattle.forward_core.specs.Session.{Agrees, Ended, Stands}
+use Rattle.sending.specs.Standing.{Standing}
+use Rattle.sending.specs.Tables.{AddsTurn, MayCut, MayHalt, Table, Tabled}
+use Rattle.sending.specs.Turning.{IsCut, IsEndingBy, IsHalt, also_of}
+use Rattle.sending.specs.Turning as turning
 use Rattle.forward_core.specs.declared.course.Course.{Course}
-use Rattle.forward_core.specs.declared.sent.Sent.{Sent}
-use Rattle.forward_core.specs.declared.sent.Sent.TheVariants as Ending
-use Rattle.forward_core.proofs.Endings.{Table, ended_so, ended_starved}
+use Rattle.sending.specs.declared.sent.Sent.{Sent}
+use Rattle.sending.specs.declared.sent.Sent.TheVariants as Ending
+use Rattle.forward_core.proofs.Endings.{ended_so, ended_starved}
 use Rattle.forward_core.proofs.Joining.{does_by, does_nothing, does_text}
 use Rattle.forward_core.proofs.Marks.{of_one_told}
-use Rattle.forward_core.proofs.Refilling.{halt_here, whole_of}
+use Rattle.forward_core.proofs.Refilling.{halt_here}
 use Rattle.forward_core.proofs.Standing.{History, stands_as, stands_first, stands_one, stands_text}
 
 -- ---- turns that write nothing and tell nothing one by one
@@ -123,58 +125,56 @@ wrote_whole Has Has' total old new given given' left left' written written' ran 
 -- ---- endings
 
 -- what the sender counts agrees with the course after a turn that tells no first entries
-pub agrees_turned : (given given' told_was told_now first first' : ℕ) (F F' : Type 0) (c : Course) → given' ≡ given → told_now ≡ told_was → first' ≡ first → (F' → F) → (F → F') → Agrees given told_was first F c → Agrees given' told_now first' F' c
-agrees_turned given given' told_was told_now first first' F F' c g t f to back a = record {
-  given_is = g ∙ a.given_is;
-  told_is = t ∙ a.told_is;
-  first_is = λ some. f ∙ a.first_is some;
-  over = λ is. a.over (to is);
-  done = λ is. back (a.done is);
+pub agrees_turned : (old new : Standing) (c : Course) → new.given ≡ old.given → new.told ≡ old.told → new.first ≡ old.first → new.finished ≡ old.finished → Agrees old c → Agrees new c
+agrees_turned old new c given_is told_is first_is over_is a = record {
+  given_is = given_is ∙ a.given_is;
+  told_is = told_is ∙ a.told_is;
+  first_is = λ some. first_is ∙ a.first_is some;
+  over = λ is. a.over (sym over_is ∙ is);
+  done = λ is. over_is ∙ a.done is;
   whole = a.whole;
   few = a.few;
   fewer = a.fewer;
 }
 
 -- no memory was found for a turn
-pub starved : (Has : History) (Ends : Table) (Hints : List ℕ → Type 0) (F : Type 0) (given told_now first total : ℕ) (c : Course) (now : Told) (ran : List Call → Type 0) → ran [] → Agrees given told_now first F c → MayHalt Has Ends F given told_now
+pub starved : (Has : History) (Ends : Table) (Hints : List ℕ → Type 0) (st : Standing) (total : ℕ) (c : Course) (now : Told) (ran : List Call → Type 0) → ran [] → Agrees st c → MayHalt Has Ends st
     → Does ran now now (Leads (Stands Has false total c) (Ended Ends Hints now.left c.end Ending.NoMemory))
-starved Has Ends Hints F given told_now first total c now ran none agrees may =
+starved Has Ends Hints st total c now ran none agrees may =
     does_nothing now ran _ _ none (λ start bytes before out s.
-    ended_starved Ends Hints now.left F Has false total c start bytes before out s given told_now agrees.told_is (λ f. (agrees.over f).1) (whole_of given told_now first F c agrees) bytes out
-    (halt_here Has Ends F given told_now may Ending.NoMemory tt _ bytes out s.also s.sent))
+    ended_starved Ends Hints now.left Has false total c start bytes before out s st agrees bytes out
+    (halt_here Has Ends st may Ending.NoMemory tt _ bytes out s.also s.sent))
 
 -- a turn ended the session, and what is told was marked
-pub ends_at : (Has Has' : History) (Ends : Table) (Hints : List ℕ → Type 0) (F : Type 0) (given told_now first total : ℕ) (c : Course) (now : Told) (ran : List Call → Type 0) (turn : Turn) (sent result : Sent) (call : Call) → ran (call ∷ [])
-    → EndsSo c.marks.items sent call result → IsEndingBy turn sent → Agrees given told_now first F c → ((entries : List Entry) (fed out also : List ℕ) → Has entries fed out also → Has' entries fed (out ++ text_of turn) (also ++ also_of first turn))
-    → MayHalt Has' Ends F given told_now → ((ending : Sent) → IsEndingBy turn ending → (entries more : List Entry) (fed out also : List ℕ) → MayFollow F given more → Has' entries fed out also → Ends (entries ++ more) fed out told_now also ending)
-    → (turn ≡ turns.PeerClosed → (entries : List Entry) (fed out also : List ℕ) → Has' entries fed out also → Hints fed) → Does ran now now (Leads (Stands Has false total c) (Ended Ends Hints now.left c.end result))
-ends_at Has Has' Ends Hints F given told_now first total c now ran turn sent result call made so is agrees on may ends hints =
+pub ends_at : (Has Has' : History) (Ends : Table) (Hints : List ℕ → Type 0) (st : Standing) (total : ℕ) (c : Course) (now : Told) (ran : List Call → Type 0) (turn : Turn) (sent result : Sent) (call : Call) → ran (call ∷ [])
+    → EndsSo c.marks.items sent call result → IsEndingBy turn sent → Agrees st c → AddsTurn st.first turn Has Has' → MayHalt Has' Ends st → Tabled turn st Has Has' Ends Hints → Does ran now now (Leads (Stands Has false total c) (Ended Ends Hints now.left c.end result))
+ends_at Has Has' Ends Hints st total c now ran turn sent result call made so is agrees on may table =
     does_by now ran (Stands Has false total c) (Ended Ends Hints now.left c.end result)
     (record {
       calls = call ∷ [];
       made = made;
       is = λ start bytes before out s.
-          let no = quiet_ending turn sent first is in
-          let q = quiet Has Has' (λ entries fed o also h. subst (λ (a : List ℕ). Has' entries fed (o ++ []) (also ++ a)) no.1 (subst (λ (t : List ℕ). Has' entries fed (o ++ t) (also ++ also_of first turn)) no.0 (on entries fed o also h))) in
+          let no = quiet_ending turn sent st.first is in
+          let q = quiet Has Has' (λ entries fed o also h. subst (λ (a : List ℕ). Has' entries fed (o ++ []) (also ++ a)) no.1 (subst (λ (t : List ℕ). Has' entries fed (o ++ t) (also ++ also_of st.first turn)) no.0 (on entries fed o also h))) in
           let s' = stands_as Has Has' false total c start bytes before out q s in
-          ended_so Ends Hints now.left F Has' false total c start bytes before out s' given told_now agrees.told_is (λ f. (agrees.over f).1) (whole_of given told_now first F c agrees) bytes out
+          ended_so Ends Hints now.left Has' false total c start bytes before out s' st agrees bytes out
           sent result call (no_halt turn sent is) so
           (λ halt which more follow. elim which [
-            | inl same ↦ subst (λ (e : Sent). Ends (entries_of (read_of c.end before) ++ more) bytes out told_now s'.also e) (sym same) (ends sent is _ more bytes out s'.also follow s'.sent)
-            | inr h ↦ halt_here Has' Ends F given told_now may halt h _ bytes out s'.also s'.sent more follow
+            | inl same ↦ subst (λ (e : Sent). Ends (entries_of (read_of c.end before) ++ more) bytes out st.told s'.also e) (sym same) (table.ends sent is _ more bytes out s'.also follow s'.sent)
+            | inr h ↦ halt_here Has' Ends st may halt h _ bytes out s'.also s'.sent more follow
           ])
-          (λ closed. inr (hints (closed_by turn sent is closed) _ bytes out s'.also s'.sent));
+          (λ closed. inr (table.hints (closed_by turn sent is closed) _ bytes out s'.also s'.sent));
     })
 
 -- a text was cut, and what is told was marked
-pub cut_at : (Has : History) (Ends : Table) (Hints : List ℕ → Type 0) (F : Type 0) (count told_now first total k : ℕ) (c : Course) (given given' left left' written written' : Option (List ℕ)) (ran : List Call → Type 0) (text : List ℕ) (result : Sent) (call : Call)
-    → ran (call ∷ []) → EndsSo c.marks.items Ending.WriteFault call result → Agrees count told_now first F c → given' ≡ given → left' ≡ left → k < length text → Appends written written' (take k text)
-    → ((entries more : List Entry) (fed out part rest also : List ℕ) (ending : Sent) → IsCut ending → MayFollow F count more → text ≡ part ++ rest → 0 < length rest → Has entries fed out also → Ends (entries ++ more) fed (out ++ part) told_now also ending)
+pub cut_at : (Has : History) (Ends : Table) (Hints : List ℕ → Type 0) (st : Standing) (total k : ℕ) (c : Course) (given given' left left' written written' : Option (List ℕ)) (ran : List Call → Type 0) (text : List ℕ) (result : Sent) (call : Call)
+    → ran (call ∷ []) → EndsSo c.marks.items Ending.WriteFault call result → Agrees st c → given' ≡ given → left' ≡ left → k < length text → Appends written written' (take k text)
+    → MayCut text Has Ends st
     → Does ran (told given left written) (told given' left' written') (Leads (Stands Has false total c) (Ended Ends Hints left' c.end result))
-cut_at Has Ends Hints F count told_now first total k c given given' left left' written written' ran text result call made so agrees same_given same_left short wrote cuts =
+cut_at Has Ends Hints st total k c given given' left left' written written' ran text result call made so agrees same_given same_left short wrote cuts =
     does_text given given' left left' written written' ran (call ∷ []) (take k text) (Stands Has false total c) (Ended Ends Hints left' c.end result) same_given same_left wrote made
     (λ start bytes before out s.
-    ended_so Ends Hints left' F Has false total c start bytes before out s count told_now agrees.told_is (λ f. (agrees.over f).1) (whole_of count told_now first F c agrees) bytes (out ++ take k text)
+    ended_so Ends Hints left' Has false total c start bytes before out s st agrees bytes (out ++ take k text)
     Ending.WriteFault result call (λ h. h) so
     (λ halt which more follow. cuts _ more bytes out (take k text) (drop k text) s.also halt
     (elim which [ inl same ↦ subst IsCut (sym same) tt | inr h ↦ halt_cuts halt h ]) follow (sym (take-append-drop k text)) (omega (arith, short, length-drop k text)) s.sent)
@@ -202,14 +202,14 @@ ended_also Ends Hints left end place start bytes calls text e = record {
   closed = λ is. cc;
 }
 
-pub unkept : (Has Has' : History) (Ends : Table) (Hints : List ℕ → Type 0) (F : Type 0) (given told_now first total place : ℕ) (c : Course) (now : Told) (ran : List Call → Type 0) → ran [] → Agrees given told_now first F c → MayHalt Has' Ends F given told_now
+pub unkept : (Has Has' : History) (Ends : Table) (Hints : List ℕ → Type 0) (st : Standing) (total place : ℕ) (c : Course) (now : Told) (ran : List Call → Type 0) → ran [] → Agrees st c → MayHalt Has' Ends st
     → ((entries : List Entry) (fed out also : List ℕ) → Has entries fed out also → Has' entries fed (out ++ []) (also ++ place ∷ []))
     → Does ran now now (Leads (Stands Has false total c) (Ended Ends Hints now.left c.end Ending.NoMemory))
-unkept Has Has' Ends Hints F given told_now first total place c now ran none agrees may on =
+unkept Has Has' Ends Hints st total place c now ran none agrees may on =
     does_nothing now ran _ _ none (λ start bytes before out s.
     ended_also Ends Hints now.left c.end place start bytes before out
-    (ended_starved (λ all fed o k also sent. Ends all fed o k (also ++ place ∷ []) sent) Hints now.left F Has false total c start bytes before out s given told_now agrees.told_is (λ f. (agrees.over f).1) (whole_of given told_now first F c agrees) bytes out
-    (halt_here Has' Ends F given told_now may Ending.NoMemory tt _ bytes out (s.also ++ place ∷ []) (subst (λ (t : List ℕ). Has' (entries_of (read_of c.end before)) bytes t (s.also ++ place ∷ [])) (append-nil out) (on _ bytes out s.also s.sent)))))
+    (ended_starved (λ all fed o k also sent. Ends all fed o k (also ++ place ∷ []) sent) Hints now.left Has false total c start bytes before out s st agrees bytes out
+    (halt_here Has' Ends st may Ending.NoMemory tt _ bytes out (s.also ++ place ∷ []) (subst (λ (t : List ℕ). Has' (entries_of (read_of c.end before)) bytes t (s.also ++ place ∷ [])) (append-nil out) (on _ bytes out s.also s.sent)))))
 
 -- what a turn does, once it is known which turn it is
 pub sent_at : (Has Has' : History) (first : ℕ) (turn turn' : Turn) → turn ≡ turn' → ((entries : List Entry) (fed out also : List ℕ) → Has entries fed out also → Has' entries fed (out ++ text_of turn) (also ++ also_of first turn))

@@ -9,8 +9,8 @@ use Rattle.desk_access.specs.Desk.{DeskState}
 use Rattle.forward_core.specs.Calls.{AreGranted, AreOfSession, MarksBelowRead, after_last, entries_of, next_of, read_of}
 use Rattle.forward_core.specs.Forwarded.{Asked, until_by}
 use Rattle.forward_core.specs.Marking.{IsOfOne}
-use Rattle.forward_core.specs.declared.sent.Sent.{Sent}
-use Rattle.forward_core.specs.declared.sent.Sent.TheVariants.{NoMemory}
+use Rattle.sending.specs.declared.sent.Sent.{Sent}
+use Rattle.sending.specs.declared.sent.Sent.TheVariants.{NoMemory}
 
 -- Of the entries that these calls read, a peer acknowledged that of this number by now, or one after it: by the protocol's
 -- table, whatever entries follow those that were read, these bytes and this text acknowledge the first entries, so many, and

@@ -7,7 +7,7 @@ use Rattle.spool_state.specs.SpoolState.{end}
 use Rattle.desk_access.specs.Call.{Call, Record}
 use Rattle.desk_access.specs.Desk.{DeskState, Goes}
 use Rattle.forward_core.specs.Session.{Ended}
-use Rattle.forward_core.specs.declared.sent.Sent.{Sent}
+use Rattle.sending.specs.declared.sent.Sent.{Sent}
 
 -- A session from its start to its end: bytes were read, calls made on the desk and a text written, and of these it ended
 -- so, of the entries from one number on and below another.

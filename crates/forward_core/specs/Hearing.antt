@@ -3,8 +3,8 @@ use Rattle.std.specs.Prelude.{◌≡◌, ℕ, ◌+◌, ◌<◌, ◌≤◌, ◌^�
 use Rattle.std.specs.Io.KnownBytes.{Appends, Consumes, IsAtEnd}
 use Rattle.event_form.specs.declared.event.Entry.{Entry}
 use Rattle.forward_core.specs.Moments.{Told}
-use Rattle.forward_core.specs.declared.sent.Sent.{Sent}
-use Rattle.forward_core.specs.declared.sent.Sent.TheVariants.{PeerClosed, ReadFault, TooMuch, NoMemory}
+use Rattle.sending.specs.declared.sent.Sent.{Sent}
+use Rattle.sending.specs.declared.sent.Sent.TheVariants.{PeerClosed, ReadFault, TooMuch, NoMemory}
 
 -- some bytes were read, counted and fed
 pub record Hears (old new : List Entry → List ℕ → List ℕ → List ℕ → Type 0) (given given' left left' : Option (List ℕ)) (before now : ℕ) : Type 0 where

@@ -14,10 +14,10 @@ use Rattle.forward_core.specs.Acknowledged.{IsAcknowledged}
 use Rattle.forward_core.specs.Calls.{AreGranted, AreOfSession, IsMarked, MarksAllBelow, entries_of, next_of, number_at, read_of}
 use Rattle.forward_core.specs.Protocols.{EndsAs, HintsAs}
 use Rattle.forward_core.specs.Session.{Ended, MarksBy}
-use Rattle.forward_core.specs.Settings.{Settings}
-use Rattle.forward_core.specs.Turning.{IsHalt, IsTold}
-use Rattle.forward_core.specs.declared.sent.Sent.{Sent}
-use Rattle.forward_core.specs.declared.sent.Sent.TheVariants.{Drained, NoMemory}
+use Rattle.sending.specs.Settings.{Settings}
+use Rattle.sending.specs.Turning.{IsHalt, IsTold}
+use Rattle.sending.specs.declared.sent.Sent.{Sent}
+use Rattle.sending.specs.declared.sent.Sent.TheVariants.{Drained, NoMemory}
 
 -- the numbers known after these calls: those known before, with those of each mark, one after another
 abbrev pub known_by : Numbers → List Call → Numbers

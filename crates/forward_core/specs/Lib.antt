@@ -5,17 +5,11 @@ pub mod Course
 pub mod Exchanged
 pub mod Forwarded
 pub mod Hearing
-pub mod Hec
 pub mod Laws
 pub mod Leave
-pub mod Lumber
 pub mod Marking
 pub mod Moments
-pub mod Outlet
 pub mod Protocols
 pub mod Reading
 pub mod Received
-pub mod Relp
 pub mod Session
-pub mod Settings
-pub mod Turning

@@ -6,9 +6,9 @@ use Rattle.spool_faults.specs.declared.fault.ConfirmFault.TheVariants as Confirm
 use Rattle.spool_answers.specs.declared.numbered.Numbered.{Numbered}
 use Rattle.desk_access.specs.Call.{Call, marks}
 use Rattle.forward_core.specs.Calls.{IsMarked, MarksAllBelow, after_last, number_at}
-use Rattle.forward_core.specs.Turning.{IsTold}
-use Rattle.forward_core.specs.declared.sent.Sent.{Sent}
-use Rattle.forward_core.specs.declared.sent.Sent.TheVariants as Ending
+use Rattle.sending.specs.Turning.{IsTold}
+use Rattle.sending.specs.declared.sent.Sent.{Sent}
+use Rattle.sending.specs.declared.sent.Sent.TheVariants as Ending
 
 -- the number is that of an entry that was told by itself
 abbrev pub IsOfOne : List Numbered → List ℕ → ℕ → Type 0

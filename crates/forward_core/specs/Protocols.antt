@@ -3,13 +3,13 @@ use Rattle.std.specs.Prelude.{ℕ, List}
 use Rattle.event_form.specs.declared.event.Entry.{Entry}
 use Rattle.edge_io.specs.declared.proto.Proto.{Proto}
 use Rattle.edge_io.specs.declared.proto.Proto.TheVariants.{Relp, Lumberjack, Hec}
-use Rattle.forward_core.specs.Hec.{collector}
-use Rattle.forward_core.specs.Lumber.{lumberjack}
-use Rattle.forward_core.specs.Outlet.{Ended}
-use Rattle.forward_core.specs.Relp as relp
-use Rattle.forward_core.specs.Settings.{Settings}
+use Rattle.hec_sender.specs.Outlet.{collector}
+use Rattle.lumber_sender.specs.Outlet.{lumberjack}
+use Rattle.sending.specs.Outlet.{Ended}
+use Rattle.relp_sender.specs.Outlet as relp
+use Rattle.sending.specs.Settings.{Settings}
 use Rattle.forward_core.specs.declared.outward.Outward.{Outward}
-use Rattle.forward_core.specs.declared.sent.Sent.{Sent}
+use Rattle.sending.specs.declared.sent.Sent.{Sent}
 
 -- what a session's collector is spoken to by
 abbrev pub settings_as : Outward → Settings

@@ -9,8 +9,8 @@ use Rattle.desk_access.specs.Call.{Call, pends}
 use Rattle.forward_core.specs.Calls.{within, entries_of, numbers_of, after_last, asked_from, next_after}
 use Rattle.forward_core.specs.declared.course.Course.{Course}
 use Rattle.forward_core.specs.declared.refill.Batch.{Batch}
-use Rattle.forward_core.specs.declared.sent.Sent.{Sent}
-use Rattle.forward_core.specs.declared.sent.Sent.TheVariants as Ending
+use Rattle.sending.specs.declared.sent.Sent.{Sent}
+use Rattle.sending.specs.declared.sent.Sent.TheVariants as Ending
 
 -- the ending by a reading that was refused
 abbrev pub sent_by : PendFault → Sent

@@ -12,10 +12,10 @@ use Rattle.forward_core.specs.Course.{below}
 use Rattle.forward_core.specs.Marking.{IsOfOne, MarksOnlyTold, MarksTold}
 use Rattle.forward_core.specs.Marking as marking
 use Rattle.forward_core.specs.Reading as reading
-use Rattle.forward_core.specs.Turning.{IsHalt, MayFollow}
+use Rattle.sending.specs.Standing.{Standing}
 use Rattle.forward_core.specs.declared.course.Course.{Course}
-use Rattle.forward_core.specs.declared.sent.Sent.{Sent}
-use Rattle.forward_core.specs.declared.sent.Sent.TheVariants.{DiskFault, NotSpool, Worn, NoMemory, PeerClosed}
+use Rattle.sending.specs.declared.sent.Sent.{Sent}
+use Rattle.sending.specs.declared.sent.Sent.TheVariants.{DiskFault, NotSpool, Worn, NoMemory, PeerClosed}
 
 -- Of the entries read these are told: what the calls marked, and what is still to be marked.
 pub record IsToMark (read : List Numbered) (told : ℕ) (also : List ℕ) (stretches : List Stretch) (calls : List Call) : Type 0 where
@@ -48,24 +48,16 @@ pub record Stands (Has : List Entry → List ℕ → List ℕ → List ℕ → T
   pub sent : Has (entries_of (read_of course.end calls)) bytes text also
   pub desk : OnDesk marked start course also calls
 
--- what the sender counts agrees with the course
-pub record Agrees (given told first : ℕ) (Finished : Type 0) (course : Course) : Type 0 where
-  pub given_is : given ≡ course.given
-  pub told_is : told ≡ course.told
-  pub first_is : 0 < course.given → first ≡ 0
-  pub over : Finished → (course.over ≡ true) × (course.end ≤ course.next)
-  pub done : course.over ≡ true → Finished
+-- where the sender stands agrees with the course
+pub record Agrees (s : Standing) (course : Course) : Type 0 where
+  pub given_is : s.given ≡ course.given
+  pub told_is : s.told ≡ course.told
+  pub first_is : 0 < course.given → s.first ≡ 0
+  pub over : s.finished ≡ true → (course.over ≡ true) × (course.end ≤ course.next)
+  pub done : course.over ≡ true → s.finished ≡ true
   pub whole : course.next < course.end → (q : ℕ) × (course.given ≡ 128 * q)
   pub few : course.given ≤ course.next
   pub fewer : course.given ≤ course.end
-
--- a session of which this was done may end so, whatever entries follow
-abbrev pub MayEndBy : (List Entry → List ℕ → List ℕ → List ℕ → Type 0) → (List Entry → List ℕ → List ℕ → ℕ → List ℕ → Sent → Type 0) → Type 0 → ℕ → ℕ → Sent → Type 0
-MayEndBy Has Ends Finished given told sent = (entries more : List Entry) (fed out also : List ℕ) → MayFollow Finished given more → Has entries fed out also → Ends (entries ++ more) fed out told also sent
-
--- it may halt, whatever bytes were read after these
-abbrev pub MayHalt : (List Entry → List ℕ → List ℕ → List ℕ → Type 0) → (List Entry → List ℕ → List ℕ → ℕ → List ℕ → Sent → Type 0) → Type 0 → ℕ → ℕ → Type 0
-MayHalt Has Ends Finished given told = (entries more : List Entry) (fed piece out also : List ℕ) (sent : Sent) → IsHalt sent → MayFollow Finished given more → Has entries fed out also → Ends (entries ++ more) (fed ++ piece) out told also sent
 
 -- the call was refused, and that is the ending
 abbrev pub IsRefusedWith : Sent → Call → Type 0

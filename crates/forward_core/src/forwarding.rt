@@ -3,12 +3,12 @@ ghost use Rattle.std.specs.Prelude.{◌≡◌, ◌<◌, ℕ, List};
 ghost use Rattle.forward_core.specs.Acknowledged.{MayRelease};
 ghost use Rattle.forward_core.specs.Forwarded.{Asked, CountsFaults, CountsWrites, Forwards, until_by};
 ghost use Rattle.forward_core.specs.Protocols.{EndsAs, HintsAs, settings_as};
-ghost use Rattle.forward_core.specs.Turning.{IsHalt};
-ghost use Rattle.forward_core.specs.declared.sent.Sent.TheVariants as Ending;
+ghost use Rattle.sending.specs.Turning.{IsHalt};
+ghost use Rattle.sending.specs.declared.sent.Sent.TheVariants as Ending;
 
 use crate::begin::begin;
 use crate::outward::Outward;
-use crate::sent::Sent;
+use sending::Sent;
 use crate::session::run;
 use desk_access::Access;
 use edge_io::{Link, Pause, Proto};

@@ -1,21 +1,19 @@
 //! Marking before the peer's bytes are read.
 ghost use Rattle.std.specs.Prelude.{◌≡◌, ℕ, ◌++◌, ◌<◌, ◌≤◌, ◌^◌, ◌∷◌, [], List, Result, false, IfErr, OnOk, IsErrOf};
-ghost use Rattle.event_form.specs.declared.event.Entry.{Entry};
 ghost use Rattle.spool_faults.specs.declared.fault.ConfirmFault.{ConfirmFault};
 ghost use Rattle.desk_access.specs.Call.{marks};
 ghost use Rattle.forward_core.specs.Leave.{AreEarned};
 ghost use Rattle.forward_core.specs.Course.{reading_left};
 ghost use Rattle.forward_core.specs.Forwarded.{CountsFaults};
 ghost use Rattle.forward_core.specs.Moments.{Does, Leads, told};
-ghost use Rattle.forward_core.specs.Session.{Agrees, Ended, MayHalt, Stands};
-ghost use Rattle.forward_core.specs.Turning.{MayEnd, MayFollow};
-ghost use Rattle.forward_core.specs.declared.sent.Sent.TheVariants as Ending;
+ghost use Rattle.forward_core.specs.Session.{Agrees, Ended, Stands};
+ghost use Rattle.sending.specs.Tables.{MayHalt, MayWait};
+ghost use Rattle.sending.specs.declared.sent.Sent.TheVariants as Ending;
 
 use crate::course::Course;
 use crate::listen::listen;
 use crate::marking::mark;
-use crate::outgoing::Outgoing;
-use crate::sent::Sent;
+use sending::{Outgoing, Sent};
 use desk_access::Access;
 use edge_io::Link;
 
@@ -30,12 +28,11 @@ pub(crate) fn hear<L: Link, A: Access, S: Outgoing>(
     requires may { A.may_confirm access.old }
     requires end { course.old.end ≤ A.end_known access.old }
     requires earned { AreEarned course.old.marks.items A.may_release }
-    requires agrees { Agrees (S.given sender.old) (S.told sender.old) (S.first sender.old) (S.finished sender.old) course.old }
-    requires fed { S.extent sender.old ≤ total.old }
+    requires agrees { Agrees (S.standing sender.old) course.old }
+    requires fed { (S.standing sender.old).extent ≤ total.old }
     requires within { total.old ≤ 2 ^ 40 }
-    requires halts { MayHalt (S.has_sent sender.old) (S.ends (S.settings sender.old)) (S.finished sender.old) (S.given sender.old) (S.told sender.old) }
-    requires waits { (entries more : List Entry) (also : List ℕ) → MayFollow (S.finished sender.old) (S.given sender.old) more
-        → MayEnd (λ fed out. S.has_sent sender.old entries fed out also) (λ fed out. S.ends (S.settings sender.old) (entries ++ more) fed out (S.told sender.old) also) }
+    requires halts { MayHalt (S.has_sent sender.old) (S.ends (S.settings sender.old)) (S.standing sender.old) }
+    requires waits { MayWait (S.has_sent sender.old) (S.ends (S.settings sender.old)) (S.standing sender.old) }
 
     ensures goes { OnOk result (Does (λ calls. A.ran access.old calls access.new)
         (told (L.given link.old) (L.left link.old) (L.taken link.old)) (told (L.given link.new) (L.left link.new) (L.taken link.new))
@@ -44,14 +41,14 @@ pub(crate) fn hear<L: Link, A: Access, S: Outgoing>(
         (told (L.given link.old) (L.left link.old) (L.taken link.old)) (told (L.given link.new) (L.left link.new) (L.taken link.new))
         (Leads (Stands (S.has_sent sender.old) false total.old course.old) (Ended (S.ends (S.settings sender.old)) S.hints (L.left link.new) course.old.end sent))) }
     ensures marks { (answer : Result Unit ConfirmFault) × A.ran access.old (marks course.old.marks.items answer ∷ []) access.new }
-    ensures agrees { OnOk result (Agrees (S.given sender.new) (S.told sender.new) (S.first sender.new) (S.finished sender.new) course.new) }
-    ensures fed { OnOk result (S.extent sender.new ≤ total.new) }
+    ensures agrees { OnOk result (Agrees (S.standing sender.new) course.new) }
+    ensures fed { OnOk result ((S.standing sender.new).extent ≤ total.new) }
     ensures within { OnOk result (total.new ≤ 2 ^ 40) }
     ensures less { OnOk result (total.old < total.new) }
     ensures course { OnOk result (reading_left course.new ≡ reading_left course.old) }
     ensures end { course.new.end ≡ course.old.end }
     ensures settings { S.settings sender.new ≡ S.settings sender.old }
-    ensures spent { S.spent sender.new ≡ S.spent sender.old }
+    ensures spent { (S.standing sender.new).spent ≡ (S.standing sender.old).spent }
     ensures unwritten { IsErrOf result Ending.WriteFault → ⊥ }
     ensures reads { CountsFaults (IsErrOf result Ending.ReadFault) (L.read_faults link.old) (L.read_faults link.new) }
     ensures writes { L.write_faults link.new ≡ L.write_faults link.old }

@@ -7,16 +7,11 @@ mod begin;
 mod course;
 mod forwarding;
 mod hear;
-mod hec;
 mod laws;
 mod listen;
-mod lumber;
 mod marking;
-mod outgoing;
 mod outward;
 mod refill;
-mod relp;
-mod sent;
 mod session;
 mod write;
 
@@ -25,6 +20,5 @@ pub use laws::{
     acknowledged_entries_are_gone, marks_are_acknowledged, marks_are_known, only_marked_is_known,
     session_leaves_the_rest, session_sends_what_is_left,
 };
-pub use outgoing::Outgoing;
 pub use outward::Outward;
-pub use sent::Sent;
+pub use sending::{Outgoing, Sent};

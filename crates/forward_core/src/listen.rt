@@ -2,10 +2,10 @@
 ghost use Rattle.std.specs.Prelude.{◌≡◌, ◌≤◌, ◌^◌, OnOk, IfErr, OnErr, IsErrOf};
 ghost use Rattle.forward_core.specs.Forwarded.{CountsFaults};
 ghost use Rattle.forward_core.specs.Hearing.{Hears, Unheard};
-ghost use Rattle.forward_core.specs.declared.sent.Sent.TheVariants as Ending;
+ghost use Rattle.sending.specs.Standing.{SameEntries};
+ghost use Rattle.sending.specs.declared.sent.Sent.TheVariants as Ending;
 
-use crate::outgoing::Outgoing;
-use crate::sent::Sent;
+use sending::{Outgoing, Sent};
 use edge_io::Link;
 
 /// How many bytes a read asks for at most.
@@ -21,20 +21,15 @@ pub(crate) fn listen<L: Link, S: Outgoing>(
     sender: &mut S,
     total: &mut u64,
 ) -> Result<(), Sent>
-    requires fed { S.extent sender.old ≤ total.old }
+    requires fed { (S.standing sender.old).extent ≤ total.old }
     requires within { total.old ≤ 2 ^ 40 }
 
     ensures heard { OnOk result (Hears (S.has_sent sender.old) (S.has_sent sender.new) (L.given link.old) (L.given link.new) (L.left link.old) (L.left link.new) total.old total.new) }
     ensures unheard { IfErr result (Unheard (L.given link.old) (L.given link.new) (L.left link.old) (L.left link.new) total.old) }
-    ensures fed { OnOk result (S.extent sender.new ≤ total.new) }
+    ensures fed { OnOk result ((S.standing sender.new).extent ≤ total.new) }
     ensures within { OnOk result (total.new ≤ 2 ^ 40) }
-    ensures given { S.given sender.new ≡ S.given sender.old }
-    ensures first { S.first sender.new ≡ S.first sender.old }
-    ensures told { S.told sender.new ≡ S.told sender.old }
-    ensures finished { S.finished sender.new → S.finished sender.old }
-    ensures stays { S.finished sender.old → S.finished sender.new }
+    ensures same { SameEntries (S.standing sender.old) (S.standing sender.new) }
     ensures settings { S.settings sender.new ≡ S.settings sender.old }
-    ensures spent { S.spent sender.new ≡ S.spent sender.old }
     ensures reads { CountsFaults (IsErrOf result Ending.ReadFault) (L.read_faults link.old) (L.read_faults link.new) }
     ensures same { L.same link.old link.new }
     ensures apart { L.read_apart link.old link.new }

@@ -6,7 +6,7 @@ ghost use Rattle.forward_core.specs.Marking.{sent_by, EndsSo, MarksSo};
 ghost use Rattle.forward_core.specs.Course.{SameTold};
 
 use crate::course::Course;
-use crate::sent::Sent;
+use sending::Sent;
 use desk_access::Access;
 use spool_answers::ConfirmFault;
 

@@ -8,14 +8,15 @@ ghost use Rattle.forward_core.specs.Calls.{asked_from};
 ghost use Rattle.forward_core.specs.Course.{SameCourse, reading_left};
 ghost use Rattle.forward_core.specs.Moments.{Calls, LeadsBy};
 ghost use Rattle.forward_core.specs.Reading.{sent_by, AddsBatch, IsBatch};
-ghost use Rattle.forward_core.specs.Session.{Agrees, Ended, MayHalt, Stands};
-ghost use Rattle.forward_core.specs.Turning.{IsHalt};
-ghost use Rattle.forward_core.specs.declared.sent.Sent.TheVariants as Ending;
+ghost use Rattle.forward_core.specs.Session.{Agrees, Ended, Stands};
+ghost use Rattle.sending.specs.Standing.{SameWork};
+ghost use Rattle.sending.specs.Tables.{MayHalt};
+ghost use Rattle.sending.specs.Turning.{IsHalt};
+ghost use Rattle.sending.specs.declared.sent.Sent.TheVariants as Ending;
 
 use crate::course::Course;
 use crate::marking::mark;
-use crate::outgoing::Outgoing;
-use crate::sent::Sent;
+use sending::{Outgoing, Sent};
 use desk_access::Access;
 use event_form::Entry;
 use spool_answers::{Numbered, PendFault};
@@ -83,18 +84,17 @@ impl Course {
 
 // Says that no more entries come.
 fn close<S: Outgoing>(sender: &mut S, course: &mut Course)
-    requires asked { S.asked sender.old }
-    requires agrees { Agrees (S.given sender.old) (S.told sender.old) (S.first sender.old) (S.finished sender.old) course.old }
+    requires asked { (S.standing sender.old).asked ≡ true }
+    requires agrees { Agrees (S.standing sender.old) course.old }
     requires none { course.old.end ≤ course.old.next }
 
     ensures stands { (total : ℕ) → LeadsBy (Stands (S.has_sent sender.old) true total course.old) (Stands (S.has_sent sender.new) false total course.new) [] }
-    ensures agrees { Agrees (S.given sender.new) (S.told sender.new) (S.first sender.new) (S.finished sender.new) course.new }
+    ensures agrees { Agrees (S.standing sender.new) course.new }
     ensures over { course.new.over ≡ true }
     ensures next { course.new.next ≡ course.old.next }
     ensures end { course.new.end ≡ course.old.end }
     ensures settings { S.settings sender.new ≡ S.settings sender.old }
-    ensures extent { S.extent sender.new ≡ S.extent sender.old }
-    ensures spent { S.spent sender.new ≡ S.spent sender.old }
+    ensures work { SameWork (S.standing sender.old) (S.standing sender.new) }
 {
     sender.finish();
     course.over = true;
@@ -107,22 +107,21 @@ fn hand<S: Outgoing>(
     mut batch: Batch,
     room: u64,
 ) -> Result<(), Sent>
-    requires asked { S.asked sender.old }
-    requires agrees { Agrees (S.given sender.old) (S.told sender.old) (S.first sender.old) (S.finished sender.old) course.old }
-    requires unfinished { S.finished sender.old → ⊥ }
+    requires asked { (S.standing sender.old).asked ≡ true }
+    requires agrees { Agrees (S.standing sender.old) course.old }
+    requires unfinished { (S.standing sender.old).finished ≡ false }
     requires more { course.old.next < course.old.end }
     requires room { room ≡ asked_from course.old.end course.old.next }
     requires batch { (given : List TheNumbered) × AreNumbered 0 (2 ^ 63) given × (length given ≤ room) × IsBatch course.old.next course.old.end given batch }
 
     ensures stands { OnOk result ((given : List TheNumbered) (total : ℕ) → AreNumbered 0 (2 ^ 63) given → length given ≤ room → IsBatch course.old.next course.old.end given batch
         → LeadsBy (Stands (S.has_sent sender.old) true total course.old) (Stands (S.has_sent sender.new) false total course.new) (pends course.old.next room (Ok given) ∷ [])) }
-    ensures agrees { OnOk result (Agrees (S.given sender.new) (S.told sender.new) (S.first sender.new) (S.finished sender.new) course.new) }
+    ensures agrees { OnOk result (Agrees (S.standing sender.new) course.new) }
     ensures less { OnOk result (reading_left course.new < reading_left course.old) }
     ensures only { IfErr result (λ sent. sent ≡ Ending.NoMemory) }
     ensures end { course.new.end ≡ course.old.end }
     ensures settings { S.settings sender.new ≡ S.settings sender.old }
-    ensures extent { S.extent sender.new ≡ S.extent sender.old }
-    ensures spent { S.spent sender.new ≡ S.spent sender.old }
+    ensures work { SameWork (S.standing sender.old) (S.standing sender.new) }
 {
     let first = course.given;
     if course.add(&mut batch, room).is_err() {
@@ -142,22 +141,21 @@ fn refill<A: Access, S: Outgoing>(
     sender: &mut S,
     course: &mut Course,
 ) -> Result<(), Sent>
-    requires asked { S.asked sender.old }
-    requires agrees { Agrees (S.given sender.old) (S.told sender.old) (S.first sender.old) (S.finished sender.old) course.old }
-    requires unfinished { S.finished sender.old → ⊥ }
+    requires asked { (S.standing sender.old).asked ≡ true }
+    requires agrees { Agrees (S.standing sender.old) course.old }
+    requires unfinished { (S.standing sender.old).finished ≡ false }
     requires end { course.old.end ≤ A.end_known access.old }
-    requires halts { MayHalt (S.has_sent sender.old) (S.ends (S.settings sender.old)) (S.finished sender.old) (S.given sender.old) (S.told sender.old) }
+    requires halts { MayHalt (S.has_sent sender.old) (S.ends (S.settings sender.old)) (S.standing sender.old) }
 
     ensures goes { OnOk result (Calls (λ calls. A.ran access.old calls access.new) (λ calls. (total : ℕ)
         → LeadsBy (Stands (S.has_sent sender.old) true total course.old) (Stands (S.has_sent sender.new) false total course.new) calls)) }
     ensures halts { IfErr result (λ sent. IsHalt sent × Calls (λ calls. A.ran access.old calls access.new) (λ calls. (total : ℕ) (left : Option (List ℕ))
         → LeadsBy (Stands (S.has_sent sender.old) true total course.old) (Ended (S.ends (S.settings sender.old)) S.hints left course.old.end sent) calls)) }
-    ensures agrees { OnOk result (Agrees (S.given sender.new) (S.told sender.new) (S.first sender.new) (S.finished sender.new) course.new) }
+    ensures agrees { OnOk result (Agrees (S.standing sender.new) course.new) }
     ensures less { OnOk result (reading_left course.new < reading_left course.old) }
     ensures end { course.new.end ≡ course.old.end }
     ensures settings { S.settings sender.new ≡ S.settings sender.old }
-    ensures extent { S.extent sender.new ≡ S.extent sender.old }
-    ensures spent { S.spent sender.new ≡ S.spent sender.old }
+    ensures work { SameWork (S.standing sender.old) (S.standing sender.new) }
 {
     let room = course.end.saturating_sub(course.next).min(BATCH);
     if room == 0 {
@@ -184,21 +182,20 @@ pub(crate) fn supply<A: Access, S: Outgoing>(
     requires may { A.may_confirm access.old }
     requires end { course.old.end ≤ A.end_known access.old }
     requires earned { AreEarned course.old.marks.items A.may_release }
-    requires asked { S.asked sender.old }
-    requires agrees { Agrees (S.given sender.old) (S.told sender.old) (S.first sender.old) (S.finished sender.old) course.old }
-    requires unfinished { S.finished sender.old → ⊥ }
-    requires halts { MayHalt (S.has_sent sender.old) (S.ends (S.settings sender.old)) (S.finished sender.old) (S.given sender.old) (S.told sender.old) }
+    requires asked { (S.standing sender.old).asked ≡ true }
+    requires agrees { Agrees (S.standing sender.old) course.old }
+    requires unfinished { (S.standing sender.old).finished ≡ false }
+    requires halts { MayHalt (S.has_sent sender.old) (S.ends (S.settings sender.old)) (S.standing sender.old) }
 
     ensures goes { OnOk result (Calls (λ calls. A.ran access.old calls access.new) (λ calls. (total : ℕ)
         → LeadsBy (Stands (S.has_sent sender.old) false total course.old) (Stands (S.has_sent sender.new) false total course.new) calls)) }
     ensures halts { IfErr result (λ sent. IsHalt sent × Calls (λ calls. A.ran access.old calls access.new) (λ calls. (total : ℕ) (left : Option (List ℕ))
         → LeadsBy (Stands (S.has_sent sender.old) false total course.old) (Ended (S.ends (S.settings sender.old)) S.hints left course.old.end sent) calls)) }
-    ensures agrees { OnOk result (Agrees (S.given sender.new) (S.told sender.new) (S.first sender.new) (S.finished sender.new) course.new) }
+    ensures agrees { OnOk result (Agrees (S.standing sender.new) course.new) }
     ensures less { OnOk result (reading_left course.new < reading_left course.old) }
     ensures end { course.new.end ≡ course.old.end }
     ensures settings { S.settings sender.new ≡ S.settings sender.old }
-    ensures extent { S.extent sender.new ≡ S.extent sender.old }
-    ensures spent { S.spent sender.new ≡ S.spent sender.old }
+    ensures work { SameWork (S.standing sender.old) (S.standing sender.new) }
 {
     mark(access, course)?;
     refill(alloc, access, sender, course)

@@ -7,15 +7,16 @@ ghost use Rattle.forward_core.specs.Course.{below, work_left};
 ghost use Rattle.forward_core.specs.Forwarded.{CountsFaults, CountsWrites, Forwards};
 ghost use Rattle.forward_core.specs.Moments.{Does, Leads, told};
 ghost use Rattle.forward_core.specs.Session.{Agrees, Ended, Stands};
-ghost use Rattle.forward_core.specs.Turning.{IsEndingBy, IsHalt};
-ghost use Rattle.forward_core.specs.declared.sent.Sent.TheVariants as Ending;
+ghost use Rattle.sending.specs.Standing.{IsUnused};
+ghost use Rattle.sending.specs.Turning.{IsEndingBy, IsHalt};
+ghost use Rattle.sending.specs.declared.sent.Sent.TheVariants as Ending;
 
 use crate::course::Course;
 use crate::hear::hear;
 use crate::marking::ended;
-use crate::outgoing::Outgoing;
+use sending::Outgoing;
 use crate::refill::supply;
-use crate::sent::Sent;
+use sending::Sent;
 use crate::write::write;
 use desk_access::Access;
 use edge_io::{Link, Pause};
@@ -53,8 +54,8 @@ fn step<L: Link, A: Access, Z: Pause, S: Outgoing>(
     requires free { (link : L) (text : List ℕ) → L.permits link text }
     requires may { A.may_confirm access.old }
     requires end { course.old.end ≤ A.end_known access.old }
-    requires agrees { Agrees (S.given sender.old) (S.told sender.old) (S.first sender.old) (S.finished sender.old) course.old }
-    requires fed { S.extent sender.old ≤ total.old }
+    requires agrees { Agrees (S.standing sender.old) course.old }
+    requires fed { (S.standing sender.old).extent ≤ total.old }
     requires within { total.old ≤ 2 ^ 40 }
     requires earned { MayMark A.ran access.old L.same (λ (l : L). told (L.given l) (L.left l) (L.taken l)) link.old
         (λ n. Leads (Stands (S.has_sent sender.old) false total.old course.old)
@@ -66,10 +67,10 @@ fn step<L: Link, A: Access, Z: Pause, S: Outgoing>(
     ensures ends { IfErr result (λ sent. Does (λ calls. A.ran access.old calls access.new)
         (told (L.given link.old) (L.left link.old) (L.taken link.old)) (told (L.given link.new) (L.left link.new) (L.taken link.new))
         (Leads (Stands (S.has_sent sender.old) false total.old course.old) (Ended (S.ends (S.settings sender.old)) S.hints (L.left link.new) course.old.end sent))) }
-    ensures agrees { OnOk result (Agrees (S.given sender.new) (S.told sender.new) (S.first sender.new) (S.finished sender.new) course.new) }
-    ensures fed { OnOk result (S.extent sender.new ≤ total.new) }
+    ensures agrees { OnOk result (Agrees (S.standing sender.new) course.new) }
+    ensures fed { OnOk result ((S.standing sender.new).extent ≤ total.new) }
     ensures within { OnOk result (total.new ≤ 2 ^ 40) }
-    ensures less { OnOk result (work_left total.new (S.spent sender.new) course.new < work_left total.old (S.spent sender.old) course.old) }
+    ensures less { OnOk result (work_left total.new (S.standing sender.new).spent course.new < work_left total.old (S.standing sender.old).spent course.old) }
     ensures end { course.new.end ≡ course.old.end }
     ensures settings { S.settings sender.new ≡ S.settings sender.old }
     ensures reads { CountsFaults (IsErrOf result Ending.ReadFault) (L.read_faults link.old) (L.read_faults link.new) }
@@ -121,10 +122,7 @@ pub(crate) fn run<L: Link, A: Access, Z: Pause, S: Outgoing>(
     requires marks { course.old.marks.items ≡ below 0 ∷ [] }
     requires over { course.old.over ≡ false }
     requires sent { S.has_sent sender.old [] [] [] [] }
-    requires unused { S.given sender.old ≡ 0 }
-    requires untold { S.told sender.old ≡ 0 }
-    requires unfed { S.extent sender.old ≡ 0 }
-    requires unfinished { S.finished sender.old → ⊥ }
+    requires unused { IsUnused (S.standing sender.old) }
     requires earned { MayMark A.ran access.old L.same (λ (l : L). told (L.given l) (L.left l) (L.taken l)) link.old
         (λ n bytes calls text. IsAcknowledged (S.ends (S.settings sender.old)) course.old.next course.old.end bytes calls text n) A.may_release }
 

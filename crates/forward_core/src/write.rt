@@ -5,12 +5,12 @@ ghost use Rattle.desk_access.specs.Call.{Call};
 ghost use Rattle.forward_core.specs.Leave.{AreEarned};
 ghost use Rattle.forward_core.specs.Forwarded.{CountsWrites};
 ghost use Rattle.forward_core.specs.Marking.{EndsSo};
-ghost use Rattle.forward_core.specs.Turning.{IsHalt};
-ghost use Rattle.forward_core.specs.declared.sent.Sent.TheVariants as Ending;
+ghost use Rattle.sending.specs.Turning.{IsHalt};
+ghost use Rattle.sending.specs.declared.sent.Sent.TheVariants as Ending;
 
 use crate::course::Course;
 use crate::marking::ended;
-use crate::sent::Sent;
+use sending::Sent;
 use desk_access::Access;
 use edge_io::{Link, write_whole};
 

@@ -8,3 +8,4 @@ pub mod Taking
 pub mod Hears
 pub mod Whole
 pub mod Sent
+pub mod Ending

@@ -8,3 +8,4 @@ pub mod Hearing
 pub mod Sends
 pub mod Turns
 pub mod Laws
+pub mod Outlet

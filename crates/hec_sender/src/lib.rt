@@ -9,6 +9,7 @@
 mod due;
 mod laws;
 mod limits;
+mod outgoing;
 mod query;
 mod request;
 mod sender;

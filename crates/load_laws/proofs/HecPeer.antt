@@ -9,10 +9,10 @@ use Rattle.http_reply.proofs.OnceLaws.{one_reading}
 use Rattle.hec_sender.specs.declared.stop.Stop.{Stop}
 use Rattle.hec_sender.specs.declared.stop.Stop.TheVariants as stop
 use Rattle.hec_sender.specs.Progress.{Progress, Stops, TakesAll, known_by, unconfirmed}
-use Rattle.forward_core.specs.Hec.{EndsAfter, IsWhole, StopsNext, collector}
-use Rattle.forward_core.specs.Settings.{Settings}
-use Rattle.forward_core.specs.declared.sent.Sent.{Sent}
-use Rattle.forward_core.specs.declared.sent.Sent.TheVariants as Ending
+use Rattle.hec_sender.specs.Outlet.{EndsAfter, IsWhole, StopsNext, collector}
+use Rattle.sending.specs.Settings.{Settings}
+use Rattle.sending.specs.declared.sent.Sent.{Sent}
+use Rattle.sending.specs.declared.sent.Sent.TheVariants as Ending
 use Rattle.load_run.specs.Peer.{runs_of, successes}
 use Rattle.ending_laws.specs.Draining.{AcknowledgesAll, PeerAcknowledges}
 use Rattle.load_laws.proofs.HecKnown.{AreLight, Confirmed, goes_on, known_is, taken_confirms}

@@ -15,9 +15,9 @@ use Rattle.lumber_frame.proofs.FrameLaws.{lumber}
 use Rattle.lumber_frame.proofs.ReadingLaws.{decides, nothing_read}
 use Rattle.lumber_frame.proofs.WriteLaws.{spells_once, written_spells}
 use Rattle.lumber_sender.specs.Progress.{Acknowledges, Progress, Stops, Takes, TakesAll, known_by, size_of, unacknowledged}
-use Rattle.forward_core.specs.Lumber.{EndsAfter, EndsAt, IsWhole, lumberjack}
-use Rattle.forward_core.specs.declared.sent.Sent.{Sent}
-use Rattle.forward_core.specs.declared.sent.Sent.TheVariants as Ending
+use Rattle.lumber_sender.specs.Outlet.{EndsAfter, EndsAt, IsWhole, lumberjack}
+use Rattle.sending.specs.declared.sent.Sent.{Sent}
+use Rattle.sending.specs.declared.sent.Sent.TheVariants as Ending
 use Rattle.load_run.specs.Peer.{runs_of, window_acks}
 use Rattle.ending_laws.specs.Draining.{AcknowledgesAll}
 use Rattle.load_laws.proofs.Fronts.{strip}

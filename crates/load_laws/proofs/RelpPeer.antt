@@ -17,9 +17,9 @@ use Rattle.relp_sender.specs.Marks.{Awaits, IsEarliest, allowed, count_known, kn
 use Rattle.relp_sender.specs.Progress.{Progress, Unopened, Opened, Stops, Takes, TakesAll, known_by}
 use Rattle.relp_sender.specs.Reply.{code_of}
 use Rattle.relp_sender.specs.Texts.{txnr_of}
-use Rattle.forward_core.specs.Relp.{EndsAfter, IsFront, IsWhole, StopsNext, relp}
-use Rattle.forward_core.specs.declared.sent.Sent.{Sent}
-use Rattle.forward_core.specs.declared.sent.Sent.TheVariants as Ending
+use Rattle.relp_sender.specs.Outlet.{EndsAfter, IsFront, IsWhole, StopsNext, relp}
+use Rattle.sending.specs.declared.sent.Sent.{Sent}
+use Rattle.sending.specs.declared.sent.Sent.TheVariants as Ending
 use Rattle.load_run.specs.Peer.{relp_replies}
 use Rattle.ending_laws.specs.Draining.{AcknowledgesAll}
 use Rattle.load_laws.proofs.Relp.{AreLow, spelled_low}

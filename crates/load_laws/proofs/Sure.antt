@@ -18,8 +18,8 @@ use Rattle.desk_access.specs.Call.{Call, calls_of, taken_of}
 use Rattle.desk_access.specs.Desk.{DeskState, desk_of}
 use Rattle.desk_access.specs.Journal.{calls_by, none_joins}
 use Rattle.desk_access.proofs.Steps.{goes_later}
-use Rattle.forward_core.specs.declared.sent.Sent.{Sent}
-use Rattle.forward_core.specs.declared.sent.Sent.TheVariants as Ending
+use Rattle.sending.specs.declared.sent.Sent.{Sent}
+use Rattle.sending.specs.declared.sent.Sent.TheVariants as Ending
 use Rattle.forward_core.proofs.Counting.{left_count}
 use Rattle.load_run.specs.declared.loaded.LoadFault.{LoadFault}
 use Rattle.load_run.specs.declared.loaded.LoadFault.TheVariants as Load

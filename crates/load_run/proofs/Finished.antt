@@ -9,8 +9,8 @@ use Rattle.desk_access.specs.Desk.{DeskState}
 use Rattle.spool_desk.specs.Standing.{standing_in}
 use Rattle.desk_access.specs.declared.standing.Standing.{Standing}
 use Rattle.spool_desk.proofs.Leading.{standing_known}
-use Rattle.forward_core.specs.declared.sent.Sent.{Sent}
-use Rattle.forward_core.specs.declared.sent.Sent.TheVariants as sents
+use Rattle.sending.specs.declared.sent.Sent.{Sent}
+use Rattle.sending.specs.declared.sent.Sent.TheVariants as sents
 use Rattle.load_run.specs.declared.loaded.LoadFault.{LoadFault}
 use Rattle.load_run.specs.declared.loaded.LoadFault.TheVariants.{Replayed, Drained, NoMemory}
 use Rattle.load_run.specs.declared.loaded.Loaded.{Loaded}

@@ -11,8 +11,8 @@ use Rattle.conn_serve.specs.Serves.{CarriedAs}
 use Rattle.conn_serve.specs.Terms.{Terms}
 use Rattle.conn_serve.proofs.Failing.{disk_fault_is_told}
 use Rattle.forward_core.specs.Session.{EndsBy, IsRefusedWith}
-use Rattle.forward_core.specs.declared.sent.Sent.{Sent}
-use Rattle.forward_core.specs.declared.sent.Sent.TheVariants.{DiskFault}
+use Rattle.sending.specs.declared.sent.Sent.{Sent}
+use Rattle.sending.specs.declared.sent.Sent.TheVariants.{DiskFault}
 
 -- of a connection
 pub talk_unfailing : (proto : Proto) (terms : Terms) (conn : ℕ) (left : Option (List ℕ)) (bytes : List ℕ) (calls : List Call) (text : List ℕ) (talk : Talk) → CarriedAs proto terms conn left bytes calls text talk → failures_of calls ≡ 0

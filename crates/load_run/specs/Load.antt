@@ -8,8 +8,8 @@ use Rattle.spool_state.specs.SpoolState.{SpoolState, end}
 use Rattle.spool_log.specs.declared.opening.Opening.TheVariants.{Raise}
 use Rattle.spool_log.specs.Opening.{opened}
 use Rattle.desk_access.specs.Desk.{DeskState}
-use Rattle.forward_core.specs.declared.sent.Sent.{Sent}
-use Rattle.forward_core.specs.declared.sent.Sent.TheVariants as sents
+use Rattle.sending.specs.declared.sent.Sent.{Sent}
+use Rattle.sending.specs.declared.sent.Sent.TheVariants as sents
 use Rattle.load_run.specs.declared.loaded.LoadFault.{LoadFault}
 use Rattle.load_run.specs.declared.loaded.LoadFault.TheVariants.{Replayed, Drained, NoMemory}
 use Rattle.load_run.specs.declared.loaded.Loaded.{Loaded}

@@ -13,8 +13,8 @@ use Rattle.conn_serve.specs.Serves.{CarriedAs}
 use Rattle.conn_serve.specs.Terms.{Terms, terms_with}
 use Rattle.forward_core.specs.Protocols.{EndsAs, HintsAs}
 use Rattle.forward_core.specs.Session.{Ended}
-use Rattle.forward_core.specs.Settings.{Settings}
-use Rattle.forward_core.specs.declared.sent.Sent.{Sent}
+use Rattle.sending.specs.Settings.{Settings}
+use Rattle.sending.specs.declared.sent.Sent.{Sent}
 
 -- the desk of a spool in that state: nothing is in doubt, and no id of its run was issued
 abbrev pub desk_in : SpoolState → DeskState

@@ -1,16 +1,16 @@
 -- Entries that are given, their end, and bytes that are fed.
-use Rattle.std.proofs.Common.{◌≡◌, inl, inr, ℕ, ◌+◌, ◌-◌, ◌<◌, ◌≤◌, ◌^◌, ◌∙◌, true, false, List, [], ◌∷◌, ◌++◌, length, refl, sym, ap, subst, arith}
-use Rattle.std.specs.Prelude.{◌/◌, ◌%◌, All, Option, Some, None}
+use Rattle.std.proofs.Common.{◌≡◌, inl, inr, ℕ, ◌+◌, ◌-◌, ◌*◌, ◌<◌, ◌≤◌, ◌^◌, ◌∙◌, true, false, List, [], ◌∷◌, ◌++◌, length, refl, sym, ap, subst, arith}
+use Rattle.std.specs.Prelude.{◌/◌, ◌%◌, Option, Some, None}
 use Rattle.std.proofs.lemmas.Bool.{false≢true, cases_lt}
 use Rattle.std.proofs.lemmas.List.{append-nil}
 use Rattle.event_form.specs.declared.event.Entry.{Entry}
-use Rattle.event_form.specs.Event.{IsEvent}
 use Rattle.lumber_frame.specs.declared.frame.LumberFrame.{LumberFrame}
 use Rattle.lumber_frame.specs.Reading.{Reader, Reads, ReadsOn}
 use Rattle.lumber_sender.specs.Windows.{windows_text, part_text}
 use Rattle.lumber_sender.specs.Progress.{Stops}
-use Rattle.lumber_sender.specs.Sender.{Sender, Keeps, Needs, given}
-use Rattle.lumber_sender.specs.Sends.{History, Sends, CanHave, HasRead}
+use Rattle.sending.specs.Standing.{Gave, MayGive}
+use Rattle.lumber_sender.specs.Sender.{Sender, Keeps, Needs, given, standing_of}
+use Rattle.lumber_sender.specs.Sends.{Past, Sends, CanHave, HasRead}
 use Rattle.lumber_sender.proofs.Reading.{heard_same, heard_fed}
 
 pub no_stop : (o : Option ℕ) (at : ℕ) → o ≡ None → o ≡ Some at → ⊥
@@ -20,14 +20,17 @@ no_stop o at is h = cc
 abbrev pub gave : Sender → ℕ → List Entry → Sender
 gave s first entries = record s { batch = entries; written = 0; first = first - s.done; asked = false }
 
+-- after whole batches a whole number of windows was given
+pub even_of : (given : ℕ) → (q : ℕ) × (given ≡ 128 * q) → given % 128 ≡ 0
+even_of given h = omega (arith, h.1)
+
 -- of a sender that wants more, nothing of a window is acknowledged
 none_acked : (s : Sender) → Keeps s → Needs s → s.acked ≡ 0
 none_acked s k n = omega (arith, k.acked, ap length n.none)
 
-pub keeps_more : (s : Sender) (first : ℕ) (entries : List Entry) → Keeps s → s.asked ≡ true → 0 < length entries → length entries ≤ 128 → given s % 128 ≡ 0 → All (λ (e : Entry). IsEvent e.event) entries
-    → (0 < given s → first ≡ s.first + given s) → first + length entries ≤ 2 ^ 63 → Keeps (gave s first entries)
-keeps_more s first entries k asked some few even limits next number =
-    let n = k.need asked in
+pub keeps_more : (s : Sender) (first : ℕ) (entries : List Entry) → Keeps s → MayGive (standing_of s) first entries → Keeps (gave s first entries)
+keeps_more s first entries k may =
+    let n = k.need may.asked in
     let t = gave s first entries in
     let none : length s.batch ≡ 0 = ap length n.none in
     let acked : s.acked ≡ 0 = none_acked s k n in
@@ -36,15 +39,15 @@ keeps_more s first entries k asked some few even limits next number =
       side = k.side;
       bound = k.bound;
       heard = heard_same s t refl refl k.heard;
-      few = few;
+      few = may.few;
       order = omega arith;
       acked = omega (arith, acked);
       unheard = λ lt. record { goes = n.goes; told = n.told ∙ omega (arith, acked); acked = acked };
       told = omega (arith, k.told);
-      number = number_of s.done first (s.first) (length entries) (λ p. next (omega (arith, p, given_is)) ∙ omega (arith, given_is)) number;
-      events = limits;
+      number = number_of s.done first (s.first) (length entries) (λ p. may.next (omega (arith, p, given_is)) ∙ omega (arith, given_is)) may.fits;
+      events = may.limits;
       need = λ e. absurd (false≢true e);
-      even = λ p. ap (λ (m : ℕ). m % 128) (sym given_is) ∙ even;
+      even = λ p. ap (λ (m : ℕ). m % 128) (sym given_is) ∙ even_of (given s) may.whole;
       ended = λ at e. absurd (no_stop s.stop at n.goes e);
     }
   where
@@ -60,13 +63,13 @@ read_keep fed taken s t None is d a can h = subst (Reads fed taken) (sym is) h
 read_keep fed taken s t (Some at) is d a can h =
     (h.0, subst (Reads fed (taken ++ h.0 ∷ [])) (sym is) h.1, h.2, λ n c. subst (λ (x : ℕ). Stops n (record { done = x; acked = t.acked }) h.0) (sym d) (subst (λ (x : ℕ). Stops n (record { done = s.done; acked = x }) h.0) (sym a) (h.3 n (can n c))))
 
-pub sends_more : (s : Sender) (first : ℕ) (entries : List Entry) → Keeps s → s.asked ≡ true → given s % 128 ≡ 0 → (h : History) → Sends h s → Sends (record h { entries = h.entries ++ entries }) (gave s first entries)
-sends_more s first entries k asked even h g =
-    let n = k.need asked in
+pub sends_more : (s : Sender) (first : ℕ) (entries : List Entry) → Keeps s → MayGive (standing_of s) first entries → (h : Past) → Sends h s → Sends (record h { entries = h.entries ++ entries }) (gave s first entries)
+sends_more s first entries k may h g =
+    let n = k.need may.asked in
     let t = gave s first entries in
     let none : length s.batch ≡ 0 = ap length n.none in
     let zero : s.written ≡ 0 = omega (arith, k.order, none) in
-    let can : (m : ℕ) → CanHave t m → CanHave s m = λ m c. record { most = omega (arith, c.most, none); all = λ e. absurd (false≢true (sym n.more ∙ e)); whole = λ lt. even } in
+    let can : (m : ℕ) → CanHave t m → CanHave s m = λ m c. record { most = omega (arith, c.most, none); all = λ e. absurd (false≢true (sym n.more ∙ e)); whole = λ lt. even_of (given s) may.whole } in
     record {
       front = g.front;
       entries = ap (λ (l : List Entry). l ++ entries) (g.entries ∙ ap (λ (l : List Entry). g.front ++ l) n.none ∙ append-nil g.front);
@@ -76,7 +79,30 @@ sends_more s first entries k asked even h g =
       progress = g.progress;
       takes = λ m c. g.takes m (can m c);
       read = read_keep h.fed h.taken s t s.stop refl refl refl can g.read;
+      alone = g.alone;
     }
+
+-- where it stands then
+pub gave_so : (s : Sender) (number : ℕ) (entries : List Entry) → Keeps s → MayGive (standing_of s) number entries → Gave number (length entries) (standing_of s) (standing_of (gave s number entries))
+gave_so s number entries k may =
+    let none : length s.batch ≡ 0 = ap length (k.need may.asked).none in
+    record {
+      first = elim (cases_lt 0 (given s)) [
+        | inl some ↦ (let at = may.next some in omega (arith, none, at))
+        | inr zero ↦ omega (arith, none, zero)
+      ];
+      given = omega (arith, none);
+      told = refl;
+      extent = refl;
+      spent = omega (arith, none, k.order);
+      finished = refl;
+    }
+
+-- the number is that of the first entry, less as many as were given before
+pub gave_does : (s : Sender) (number : ℕ) (entries : List Entry) → Keeps s → s.asked ≡ true → gave s number entries ≡ record s { batch = entries; written = 0; first = number - given s; asked = false }
+gave_does s number entries k asked =
+    let same : s.done ≡ given s = (let none : length s.batch ≡ 0 = ap length (k.need asked).none in omega (arith, none)) in
+    ap (λ (n : ℕ). record s { batch = entries; written = 0; first = number - n; asked = false }) same
 
 -- the sender for which no more come
 abbrev pub ended : Sender → Sender
@@ -102,7 +128,7 @@ keeps_end s k asked =
       ended = λ at e. absurd (no_stop s.stop at n.goes e);
     }
 
-pub sends_end : (s : Sender) → Keeps s → s.asked ≡ true → (h : History) → Sends h s → Sends h (ended s)
+pub sends_end : (s : Sender) → Keeps s → s.asked ≡ true → (h : Past) → Sends h s → Sends h (ended s)
 sends_end s k asked h g =
     let n = k.need asked in
     let can : (m : ℕ) → CanHave (ended s) m → CanHave s m = λ m c. record { most = c.most; all = λ e. absurd (false≢true (sym n.more ∙ e)); whole = λ lt. absurd (let a : m ≡ given s = c.all refl in omega (arith, lt, a)) } in
@@ -115,6 +141,7 @@ sends_end s k asked h g =
       progress = g.progress;
       takes = λ m c. g.takes m (can m c);
       read = read_keep h.fed h.taken s (ended s) s.stop refl refl refl can g.read;
+      alone = g.alone;
     }
 
 -- ---- bytes that are fed
@@ -123,7 +150,7 @@ read_fed : (fed piece : List ℕ) (taken : List LumberFrame) (s : Sender) (r : R
 read_fed fed piece taken s r None on h = on fed taken h
 read_fed fed piece taken s r (Some at) on h = (h.0, on fed (taken ++ h.0 ∷ []) h.1, h.2, λ n c. h.3 n (record { most = c.most; all = c.all; whole = c.whole }))
 
-pub sends_fed : (s : Sender) (r : Reader) (piece : List ℕ) → ReadsOn s.reader piece r → (h : History) → Sends h s → Sends (record h { fed = h.fed ++ piece }) (record s { reader = r })
+pub sends_fed : (s : Sender) (r : Reader) (piece : List ℕ) → ReadsOn s.reader piece r → (h : Past) → Sends h s → Sends (record h { fed = h.fed ++ piece }) (record s { reader = r })
 sends_fed s r piece on h g = record {
   front = g.front;
   entries = g.entries;
@@ -133,6 +160,7 @@ sends_fed s r piece on h g = record {
   progress = g.progress;
   takes = λ n c. g.takes n (record { most = c.most; all = c.all; whole = c.whole });
   read = read_fed h.fed piece h.taken s r s.stop on g.read;
+  alone = g.alone;
 }
 
 need_fed : (s : Sender) (r : Reader) → Needs s → Needs (record s { reader = r })

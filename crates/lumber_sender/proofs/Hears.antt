@@ -77,6 +77,7 @@ sends_part s r f acked goes took takes h g =
         progress = refl;
         takes = λ n c. (let can = can_same s t refl refl n c in takes_then n unacknowledged h.taken (progress_of s) f (progress_of t) (g.takes n can) (takes n can));
         read = has_read h.fed (h.taken ++ f ∷ []) t s.stop goes (took.reads h.fed h.taken (read_of h.fed h.taken s s.stop goes g.read));
+        alone = g.alone;
       },
     )
 
@@ -99,6 +100,7 @@ sends_whole s r f k goes w x took h g =
             let can = can_same s t same refl n c in
             takes_then n unacknowledged h.taken (progress_of s) f (progress_of t) (g.takes n can) (takes_heard Whole s r f (λ e. cc) k w x n can));
         read = has_read h.fed (h.taken ++ f ∷ []) t s.stop goes (took.reads h.fed h.taken (read_of h.fed h.taken s s.stop goes g.read));
+        alone = g.alone;
       },
     )
 
@@ -121,6 +123,7 @@ sends_beyond s r f k goes w x took h g =
         progress = refl;
         takes = λ n c. subst (λ (l : List LumberFrame). TakesAll n unacknowledged l (progress_of s)) (sym (append-nil h.taken)) (g.takes n (can_same s t refl refl n c));
         read = subst (λ (l : List LumberFrame). HasRead h.fed l t (Some (6 * s.heard))) (sym (append-nil h.taken)) read;
+        alone = g.alone;
       },
     )
 

@@ -7,3 +7,6 @@ pub mod Writing
 pub mod Telling
 pub mod Whole
 pub mod Sent
+pub mod Bytes
+pub mod Tables
+pub mod Turned

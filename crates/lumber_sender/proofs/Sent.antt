@@ -4,12 +4,13 @@ use Rattle.std.specs.Prelude.{◌/◌, ◌%◌}
 use Rattle.std.proofs.lemmas.Bool.{cases_lt}
 use Rattle.std.proofs.lemmas.List.{take-append-le, drop-append-le, append-nil}
 use Rattle.event_form.specs.declared.event.Entry.{Entry}
-use Rattle.lumber_sender.specs.Sender.{Sender, Keeps, MayFollow, given}
-use Rattle.lumber_sender.specs.Sends.{History, Sends}
-use Rattle.lumber_sender.specs.Turns.{TellsSent}
+use Rattle.sending.specs.Standing.{MayFollow}
+use Rattle.lumber_sender.specs.Sender.{Sender, Keeps, given, standing_of}
+use Rattle.lumber_sender.specs.Sends.{Past, Sends}
 use Rattle.lumber_sender.specs.Windows.{IsSent, batch_text, part_text, windows_text}
 use Rattle.lumber_sender.proofs.Cutting.{no_more, window_text_final}
 use Rattle.lumber_sender.proofs.Parts.{part_all}
+use Rattle.lumber_sender.proofs.Whole.{evens}
 
 -- ---- windows
 
@@ -35,7 +36,7 @@ first_windows (suc n) (suc m) (e ∷ es) le =
     let r = first_windows n m (drop 128 (e ∷ es)) (omega (arith, le)) in
     (r.0, ap (λ (t : List ℕ). first ++ t) r.1 ∙ sym (append_assoc first (windows_text n (drop 128 (e ∷ es))) r.0))
 
-module _ (s : Sender) (k : Keeps s) (h : History) (more : List Entry) (was : Sends h s) (may : MayFollow s more) (place : ℕ) where
+module _ (s : Sender) (k : Keeps s) (h : Past) (more : List Entry) (was : Sends h s) (may : MayFollow (standing_of s) more) (place : ℕ) where
   abbrev tail : List Entry
   tail = s.batch ++ more
 
@@ -64,7 +65,7 @@ module _ (s : Sender) (k : Keeps s) (h : History) (more : List Entry) (was : Sen
   before less = elim (cases_lt 0 (length s.batch)) [
     | inl some ↦ before_whole less (k.even some)
     | inr nothing ↦ elim (cases_lt 0 (length more)) [
-      | inl follow ↦ before_whole less (let same : given s ≡ s.done = omega (arith, nothing) in ap (λ (n : ℕ). n % 128) (sym same) ∙ may.whole follow)
+      | inl follow ↦ before_whole less (let same : given s ≡ s.done = omega (arith, nothing) in ap (λ (n : ℕ). n % 128) (sym same) ∙ evens s more may follow)
       | inr none ↦ before_all less (no_more tail (omega (arith, nothing, none, length-append s.batch more)))
     ]
   ]
@@ -76,7 +77,7 @@ module _ (s : Sender) (k : Keeps s) (h : History) (more : List Entry) (was : Sen
       let even = k.even some in
       let n = s.done / 128 + 1 in
       let same : place / 128 + 1 ≡ n = omega (arith, least, less, even, k.acked, k.few) in
-      let text = ap (windows_text n) (ap (λ (l : List Entry). l ++ more) was.entries) ∙ window_text_final was.front s.batch more s.done was.count even some k.few may.whole in (
+      let text = ap (windows_text n) (ap (λ (l : List Entry). l ++ more) was.entries) ∙ window_text_final was.front s.batch more s.done was.count even some k.few (evens s more may) in (
         [],
         was.said ∙ ap (λ (t : List ℕ). windows_text n was.front ++ t) (part_all s.batch s.written whole some) ∙ sym text
             ∙ ap (λ (m : ℕ). windows_text m (h.entries ++ more)) (sym same) ∙ sym (append-nil (windows_text (place / 128 + 1) (h.entries ++ more))),
@@ -94,5 +95,5 @@ module _ (s : Sender) (k : Keeps s) (h : History) (more : List Entry) (was : Sen
     | inr least ↦ under_way (omega (arith, least)) (omega (arith, told, k.told))
   ]
 
-pub sent_at : (s : Sender) → Keeps s → (h : History) (more : List Entry) → Sends h s → MayFollow s more → TellsSent h more s
+pub sent_at : (s : Sender) → Keeps s → (h : Past) (more : List Entry) → Sends h s → MayFollow (standing_of s) more → (place : ℕ) → place < s.told → IsSent (h.entries ++ more) h.out place
 sent_at s k h more was may = λ place told. sent s k h more was may place told

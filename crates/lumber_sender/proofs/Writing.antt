@@ -8,7 +8,8 @@ use Rattle.lumber_frame.specs.Reading.{Reads}
 use Rattle.lumber_sender.specs.Windows.{windows_text, part_text}
 use Rattle.lumber_sender.specs.Progress.{TakesAll, Stops, unacknowledged}
 use Rattle.lumber_sender.specs.Sender.{Sender, Keeps, progress_of}
-use Rattle.lumber_sender.specs.Sends.{later, Sends, SendsOn, CanHave, HasRead}
+use Rattle.sending.specs.Outlet.{later}
+use Rattle.lumber_sender.specs.Sends.{Sends, SendsOn, CanHave, HasRead}
 use Rattle.lumber_sender.proofs.Reading.{heard_same}
 use Rattle.lumber_sender.proofs.Giving.{no_stop}
 
@@ -35,6 +36,7 @@ sends_part s upto text part h g =
         progress = refl;
         takes = λ n c. subst (λ (l : List LumberFrame). TakesAll n unacknowledged l (progress_of s)) (sym (append-nil h.taken)) (g.takes n (can n c));
         read = read_same h.fed h.taken s t s.stop refl refl can g.read;
+        alone = g.alone;
       },
     )
 
@@ -80,6 +82,7 @@ sends_told s told asked h g =
         progress = refl;
         takes = λ n c. subst (λ (l : List LumberFrame). TakesAll n unacknowledged l (progress_of s)) (sym (append-nil h.taken)) (g.takes n (can n c));
         read = read_same h.fed h.taken s t s.stop refl refl can g.read;
+        alone = g.alone;
       },
     )
 

@@ -4,4 +4,5 @@ pub mod Sender
 pub mod View
 pub mod Hearing
 pub mod Sends
+pub mod Outlet
 pub mod Turns

@@ -1,10 +1,11 @@
 -- What contracts see of a sender.
-use Rattle.std.specs.Prelude.{◌≡◌, ℕ, ◌+◌, ◌-◌, ◌%◌, ◌<◌, ◌≤◌, ◌^◌, Bool, true, false, List, [], length, Option, Some, None, IsSome, All}
+use Rattle.std.specs.Prelude.{◌≡◌, ℕ, ◌+◌, ◌-◌, ◌%◌, ◌<◌, ◌≤◌, ◌^◌, Bool, true, false, List, [], length, Option, Some, None, All}
 use Rattle.event_form.specs.declared.event.Entry.{Entry}
 use Rattle.event_form.specs.Event.{IsEvent}
 use Rattle.lumber_frame.specs.declared.frame.LumberFrame.{LumberFrame}
 use Rattle.lumber_frame.specs.declared.side.Side.TheVariants as side
 use Rattle.lumber_frame.specs.Reading.{Reader, Reads, unfed}
+use Rattle.sending.specs.Standing.{Standing}
 use Rattle.lumber_sender.specs.declared.due.Due.{Due}
 use Rattle.lumber_sender.specs.declared.due.Due.TheVariants.{Stopped, Confirm, Ask, End, Hear}
 use Rattle.lumber_sender.specs.declared.limits.TheConstants.{WINDOW}
@@ -59,10 +60,13 @@ extent s = s.reader.at + length s.reader.rest
 abbrev pub progress_of : Sender → Progress
 progress_of s = record { done = s.done; acked = s.acked }
 
--- These entries may follow those given: none where no more come, and some only after whole windows.
-pub record MayFollow (s : Sender) (more : List Entry) : Type 0 where
-  pub none : s.finished ≡ true → more ≡ []
-  pub whole : 0 < length more → given s % WINDOW ≡ 0
+-- how many entries were written and how many were reported, together: it is at most twice as many as were given
+abbrev pub spent : Sender → ℕ
+spent s = s.done + s.written + s.told
+
+-- where it stands
+abbrev pub standing_of : Sender → Standing
+standing_of s = record { first = s.first; given = given s; told = s.told; extent = extent s; spent = spent s; finished = s.finished; asked = s.asked }
 
 -- more entries are wanted: no ending came, all that is acknowledged was reported, all entries given are acknowledged, and more
 -- may come
@@ -116,7 +120,7 @@ pub record Keeps (s : Sender) : Type 0 where
 
 -- what is due, where no entry waits to be written
 abbrev pub IsDue : Due → Sender → Type 0
-IsDue Stopped s = IsSome s.stop
+IsDue (Stopped at) s = s.stop ≡ Some at
 IsDue Confirm s = (s.stop ≡ None) × (s.told < known s)
 IsDue Ask s = Needs s
 IsDue End s = IsDone s

@@ -6,27 +6,15 @@ use Rattle.lumber_frame.specs.declared.side.Side.TheVariants as side
 use Rattle.lumber_frame.specs.Reading.{Reads}
 use Rattle.lumber_frame.specs.Spelling.{Spells}
 use Rattle.stream_grammar.specs.Framing.{AreSpelled}
+use Rattle.sending.specs.Outlet.{History, later}
 use Rattle.lumber_sender.specs.declared.limits.TheConstants.{WINDOW}
 use Rattle.lumber_sender.specs.Windows.{windows_text, part_text}
 use Rattle.lumber_sender.specs.Progress.{Progress, unacknowledged, TakesAll, Stops}
 use Rattle.lumber_sender.specs.Sender.{Sender, given, progress_of}
 
--- What was done with a sender: the entries given, the receiver's bytes fed, the frames of them that were taken, the bytes written,
--- and what the frames brought.
-pub record History : Type 0 where
-  pub entries : List Entry
-  pub fed : List ℕ
-  pub taken : List LumberFrame
-  pub out : List ℕ
-  pub progress : Progress
-
--- nothing was done
-abbrev pub nothing : History
-nothing = record { entries = []; fed = []; taken = []; out = []; progress = unacknowledged }
-
--- frames more were taken, and a text more was written
-abbrev pub later : History → List LumberFrame → List ℕ → Progress → History
-later h more text p = record h { taken = h.taken ++ more; out = h.out ++ text; progress = p }
+-- what was done with a sender
+abbrev pub Past : Type 0
+Past = History LumberFrame Progress
 
 -- The list of all entries may have this length: those given are its first ones; where no more come they are all; and more come
 -- only after whole windows.
@@ -45,7 +33,7 @@ HasRead fed taken s None = Reads fed taken s.reader
 HasRead fed taken s (Some at) = (f : LumberFrame) × Reads fed (taken ++ f ∷ []) s.reader × EndAt taken at × ((n : ℕ) → CanHave s n → Stops n (progress_of s) f)
 
 -- With this history a sender has come to this.
-pub record Sends (h : History) (s : Sender) : Type 0 where
+pub record Sends (h : Past) (s : Sender) : Type 0 where
   -- the entries before the window under way
   pub front : List Entry
   pub entries : h.entries ≡ front ++ s.batch
@@ -57,7 +45,9 @@ pub record Sends (h : History) (s : Sender) : Type 0 where
   pub progress : h.progress ≡ progress_of s
   pub takes : (n : ℕ) → CanHave s n → TakesAll n unacknowledged h.taken (progress_of s)
   pub read : HasRead h.fed h.taken s s.stop
+  -- it tells of the first entries alone
+  pub alone : h.also ≡ []
 
 -- whatever was done before, some frames more were taken, and this text more was written
 abbrev pub SendsOn : Sender → List ℕ → Sender → Type 0
-SendsOn old text new = (h : History) → Sends h old → (more : List LumberFrame) × (p : Progress) × Sends (later h more text p) new
+SendsOn old text new = (h : Past) → Sends h old → (more : List LumberFrame) × (p : Progress) × Sends (later h more text p) new

@@ -1,16 +1,18 @@
 -- What a sender does next, and where each turn comes.
-use Rattle.std.specs.Prelude.{◌≡◌, ◌⊎◌, ℕ, ◌+◌, ◌<◌, List, [], ◌++◌, length, Some, None}
-use Rattle.event_form.specs.declared.event.Entry.{Entry}
+use Rattle.std.specs.Prelude.{◌≡◌, ◌⊎◌, ℕ, ◌+◌, ◌-◌, ◌<◌, true, false, List, [], length, Some, None, Ok, Err}
 use Rattle.event_form.specs.declared.talk.Why.TheVariants as why
 use Rattle.lumber_frame.specs.declared.fault.LumberFault.{LumberFault}
 use Rattle.lumber_frame.specs.Why.{why_of}
 use Rattle.lumber_sender.specs.declared.due.Due.TheVariants as due
 use Rattle.event_form.specs.declared.turn.Turn.{Turn}
 use Rattle.event_form.specs.declared.turn.Turn.TheVariants.{Write, Confirmed, Also, Need, Wait, Pause, Done, Refused, PeerClosed, PeerFault, Unconfirmed}
-use Rattle.lumber_sender.specs.Progress.{session_text, known_by}
-use Rattle.lumber_sender.specs.Sender.{Sender, known, Needs, IsDone, IsDue}
-use Rattle.lumber_sender.specs.Sends.{History}
-use Rattle.lumber_sender.specs.Windows.{IsPart, IsSent}
+use Rattle.event_form.specs.Turn.{IsResting, text_of}
+use Rattle.sending.specs.Deed.{Deed, gives, finishes, feeds, turns}
+use Rattle.sending.specs.Turning.{Turned}
+use Rattle.lumber_sender.specs.Progress.{session_text}
+use Rattle.lumber_sender.specs.Sender.{Sender, Keeps, Needs, IsDone, IsDue, given, known, spent, standing_of}
+use Rattle.lumber_sender.specs.Sends.{Past, Sends, SendsOn}
+use Rattle.lumber_sender.specs.Windows.{IsPart}
 
 -- of the sender after a turn
 abbrev pub IsTurn : Turn → Sender → Type 0
@@ -43,37 +45,34 @@ abbrev pub IsWritten : Turn → Sender → Sender → Type 0
 IsWritten (Write text) old new = (new.batch ≡ old.batch) × IsPart old.batch old.written new.written text
 IsWritten turn old new = Unit {0}
 
--- how many entries were reported as acknowledged before a turn and after it
-abbrev pub IsTold : Turn → ℕ → ℕ → Type 0
-IsTold (Confirmed upto) before now = before < now
-IsTold turn before now = now ≡ before
+-- what a turn makes of a sender
+pub record TurnsSo (turn : Turn) (old new : Sender) : Type 0 where
+  pub sends : SendsOn old (text_of turn) new
+  pub written : IsWritten turn old new
+  pub is : IsTurn turn new
+  pub exactly : IsFor old turn
+  pub stands : Turned turn (standing_of old) (standing_of new)
+  pub same : standing_of new ≡ record (standing_of old) { told = new.told; spent = spent new; asked = new.asked }
 
--- how many entries were written and how many were reported, together: it is at most twice as many as were given
-abbrev pub spent : Sender → ℕ
-spent s = s.done + s.written + s.told
+-- what a frame that was taken makes of one, where that was due
+pub record TakesSo (old new : Sender) : Type 0 where
+  pub sends : SendsOn old [] new
+  pub due : IsDue due.Hear old
+  pub fewer : length new.reader.waiting < length old.reader.waiting
+  pub written : new.written ≡ length new.batch
+  pub same : standing_of new ≡ standing_of old
 
--- a text and a report make it greater, and nothing else changes it
-abbrev pub IsSpent : Turn → ℕ → ℕ → Type 0
-IsSpent (Write text) before now = before < now
-IsSpent (Confirmed upto) before now = before < now
-IsSpent turn before now = now ≡ before
+-- What a turn makes of a sender, and leaves it: after one that writes and reports nothing the text is that of the entries given,
+-- as far as it may be written by then.
+pub record TurnsWhole (turn : Turn) (old new : Sender) : Type 0 where
+  pub so : TurnsSo turn old new
+  pub keeps : Keeps new
+  pub whole : IsResting turn → (h : Past) → Sends h new → h.out ≡ session_text h.entries h.progress
 
--- what is reported as acknowledged is what the receiver's frames acknowledge
-abbrev pub TellsAll : History → Sender → Type 0
-TellsAll h s = s.told ≡ known_by h.progress
-
--- where these entries follow, the text has the window of each entry that was reported as acknowledged
-abbrev pub TellsSent : History → List Entry → Sender → Type 0
-TellsSent h more s = (place : ℕ) → place < s.told → IsSent (h.entries ++ more) h.out place
-
--- the text is that of the entries given
-abbrev pub IsWhole : History → Type 0
-IsWhole h = h.out ≡ session_text h.entries h.progress
-
--- the text is that of the whole list
-abbrev pub IsWholeOf : History → List Entry → Type 0
-IsWholeOf h more = h.out ≡ session_text (h.entries ++ more) h.progress
-
--- the text begins that of the whole list
-abbrev pub Begins : History → List Entry → Type 0
-Begins h more = (rest : List ℕ) × (session_text (h.entries ++ more) h.progress ≡ h.out ++ rest)
+-- what each call makes of a sender
+abbrev pub Does : Deed → Sender → Sender → Type 0
+Does (gives number entries) old new = new ≡ record old { batch = entries; written = 0; first = number - given old; asked = false }
+Does finishes old new = new ≡ record old { finished = true; asked = false }
+Does (feeds piece result) old new = new ≡ record old { reader = new.reader }
+Does (turns (Ok turn)) old new = TurnsWhole turn old new
+Does (turns (Err e)) old new = (new ≡ old) × Keeps new

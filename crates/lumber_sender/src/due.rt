@@ -3,8 +3,8 @@
 /// What is due, where no entry waits to be written.
 #[derive(Clone, Copy, PartialEq, Eq)]
 pub(crate) enum Due {
-    /// Nothing: the receiver sent a frame that may not come.
-    Stopped,
+    /// Nothing: the receiver sent a frame that may not come, at this offset.
+    Stopped(u64),
     /// To report what is acknowledged.
     Confirm,
     /// To ask for more entries.

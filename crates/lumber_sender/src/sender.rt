@@ -1,23 +1,21 @@
 //! The sender.
-ghost use Rattle.std.specs.Prelude.{◌≡◌, ◌≢◌, ◌↔◌, ◌+◌, ◌-◌, ◌*◌, ◌%◌, ◌<◌, ◌≤◌, ◌^◌};
-ghost use Rattle.std.specs.Prelude.{true, false, List, [], ◌++◌, length, All, IsTrue, IfOk, OnOk, OnErr};
-ghost use Rattle.event_form.specs.declared.event.Entry.{Entry};
-ghost use Rattle.event_form.specs.Event.{IsEvent};
-ghost use Rattle.lumber_sender.specs.declared.due.Due.TheVariants.{Confirm, Ask, Hear};
-ghost use Rattle.event_form.specs.declared.turn.Turn.TheVariants.{Need, Done};
-ghost use Rattle.lumber_frame.specs.declared.side.Side.TheVariants as side;
-ghost use Rattle.lumber_sender.specs.declared.limits.TheConstants.{WINDOW};
-ghost use Rattle.lumber_sender.specs.Progress.{known_by};
-ghost use Rattle.lumber_sender.specs.Sender.{untouched, given, known, extent, MayFollow, Keeps, Needs, IsDue};
-ghost use Rattle.lumber_sender.specs.Sends.{History, nothing, Sends, SendsOn};
-ghost use Rattle.event_form.specs.Turn.{text_of, HasTold, IsResting};
-ghost use Rattle.lumber_sender.specs.Turns.{IsTurn, IsFor, IsTold, IsWritten, spent, IsSpent, TellsAll, TellsSent, IsWhole, IsWholeOf, Begins};
+ghost use Rattle.std.specs.Prelude.{◌≡◌, ◌≢◌, ◌<◌, [], length, true, false, IsTrue, IfOk, OnErr};
+ghost use Rattle.event_form.specs.Turn.{IsResting, text_of};
+ghost use Rattle.event_form.specs.declared.turn.Turn.TheVariants.{Need};
+ghost use Rattle.sending.specs.Outlet.{HasSent, nothing, table_of};
+ghost use Rattle.sending.specs.Settings.{unset};
+ghost use Rattle.lumber_sender.specs.declared.due.Due.TheVariants.{Confirm, Hear};
+ghost use Rattle.lumber_sender.specs.Outlet.{lumberjack};
+ghost use Rattle.lumber_sender.specs.Sender.{untouched, known, standing_of, Keeps, Needs, IsDue};
+ghost use Rattle.lumber_sender.specs.Sends.{Sends};
+ghost use Rattle.lumber_sender.specs.Turns.{Does, IsFor, IsTurn, TakesSo, TurnsSo};
 
 use crate::due::Due;
 use crate::hearing::{Heard, hear};
 use crate::text::next_part;
 use event_form::{Entry, FeedFault, Turn, Why};
 use lumber_frame::{LumberFault, LumberReader, Side};
+use sending::Outgoing;
 use std::alloc::{AllocError, Global};
 use std::marker::Model;
 
@@ -58,7 +56,7 @@ impl LumberSender {
     /// A sender that was given nothing. It keeps the allocator for what it reads and writes.
     pub fn new(alloc: Global) -> LumberSender
         ensures untouched { result ≡ untouched }
-        ensures sends { Sends nothing result }
+        ensures sends { Sends (nothing lumberjack) result }
     {
         LumberSender {
             alloc,
@@ -76,50 +74,36 @@ impl LumberSender {
             fault: None,
         }
     }
+}
 
-    /// Adds entries, which are the next window; the first of them has this number. The last turn asked for
-    /// them, they follow those given before, and each batch given before had `WINDOW` entries. It takes no
-    /// memory.
-    pub fn give(&mut self, first: u64, entries: Vec<Entry>)
-        requires asked { self.old.asked ≡ true }
-        requires some { 0 < length entries.items }
-        requires few { length entries.items ≤ WINDOW }
-        requires whole { given self.old % WINDOW ≡ 0 }
-        requires limits { All (λ e. IsEvent e.event) entries.items }
-        requires next { 0 < given self.old → first ≡ self.old.first + given self.old }
-        requires number { first + length entries.items ≤ 2 ^ 63 }
-        ensures sends { (h : History) → Sends h self.old → Sends (record h { entries = h.entries ++ entries.items }) self.new }
-        ensures after { self.new ≡ record self.old { batch = entries.items; written = 0; first = first - given self.old; asked = false } }
-        ensures given { given self.new ≡ given self.old + length entries.items }
-        ensures first { self.new.first + given self.old ≡ first }
-        ensures extent { extent self.new ≡ extent self.old }
-        ensures spent { spent self.new ≡ spent self.old }
-    {
-        self.first = first - self.done;
+impl Outgoing for LumberSender {
+    ghost has_sent = { λ s. HasSent (λ h. Sends h s) };
+
+    ghost ends = { λ settings. table_of lumberjack };
+
+    ghost hints = { λ bytes. ⊥ };
+
+    ghost settings = { λ s. unset };
+
+    ghost standing = { standing_of };
+
+    ghost does = { Does };
+
+    /// Adds entries, which are the next window. It takes no memory.
+    fn give(&mut self, number: u64, entries: Vec<Entry>) {
+        self.first = number - self.done;
         self.batch = entries;
         self.written = 0;
         self.asked = false;
     }
 
-    /// Says that no more entries come, where the last turn asked for them. It takes no memory.
-    pub fn finish(&mut self)
-        requires asked { self.old.asked ≡ true }
-        ensures sends { (h : History) → Sends h self.old → Sends h self.new }
-        ensures after { self.new ≡ record self.old { finished = true; asked = false } }
-    {
+    /// Says that no more entries come. It takes no memory.
+    fn finish(&mut self) {
         self.finished = true;
         self.asked = false;
     }
 
-    /// Adds the next of the receiver's bytes. The bytes fed before and this piece are together at most 2^40.
-    /// After the error, that no memory was found, nothing was added.
-    pub fn feed(&mut self, piece: &[u8]) -> Result<(), AllocError>
-        requires fits { extent self.old + length piece.now ≤ 2 ^ 40 }
-        ensures sends { OnOk result ((h : History) → Sends h self.old → Sends (record h { fed = h.fed ++ piece.now }) self.new) }
-        ensures same { self.new ≡ record self.old { reader = self.new.reader } }
-        ensures extent { extent self.new ≤ extent self.old + length piece.now }
-        ensures err { OnErr result (self.new ≡ self.old) }
-    {
+    fn feed(&mut self, piece: &[u8]) -> Result<(), AllocError> {
         match self.reader.feed(piece) {
             Ok(()) => Ok(()),
             Err(FeedFault::Fault(fault)) => {
@@ -139,50 +123,14 @@ impl LumberSender {
     /// `finish` was called; `PeerFault` at the offset of an acknowledgment of more frames than the window has,
     /// or of what is no frame. No other turn comes. After `Done` and `PeerFault` each turn is the same. The
     /// only error is want of memory; after it the sender is as before.
-    pub fn turn(&mut self) -> Result<Turn, AllocError>
-        ensures err { OnErr result (self.new ≡ self.old) }
-        // what is written and taken
-        ensures written { IfOk result (λ turn. IsWritten turn self.old self.new) }
-        ensures sends { IfOk result (λ turn. SendsOn self.old (text_of turn) self.new) }
-        ensures begins { (h : History) (more : List Entry) → Sends h self.new → MayFollow self.new more → Begins h more }
-        ensures whole { IfOk result (λ turn. IsResting turn → (h : History) → Sends h self.new → IsWhole h) }
-        ensures all { IfOk result (λ turn. IsResting turn → turn ≢ Need
-            → (h : History) (more : List Entry) → Sends h self.new → MayFollow self.new more → IsWholeOf h more) }
-        // what is reported
-        ensures told { IfOk result (λ turn. IsTold turn self.old.told self.new.told) }
-        ensures most { (h : History) → Sends h self.new → self.new.told ≤ known_by h.progress }
-        ensures sent { (h : History) (more : List Entry) → Sends h self.new → MayFollow self.new more → TellsSent h more self.new }
-        ensures sent_before { (h : History) (more : List Entry) → Sends h self.old → MayFollow self.old more → TellsSent h more self.old }
-        ensures known { IfOk result (λ turn. HasTold turn → (h : History) → Sends h self.new → TellsAll h self.new) }
-        ensures done { IfOk result (λ turn. turn ≡ Done → self.new.told ≡ given self.new) }
-        ensures within { self.new.told ≤ given self.new }
-        ensures left { IfOk result (λ turn. IsResting turn → turn ≢ Need → turn ≢ Done → self.new.told < given self.new) }
-        // when each turn comes
-        ensures turn { IfOk result (λ turn. IsTurn turn self.new) }
-        ensures exactly { IfOk result (λ turn. IsFor self.old turn) }
-        ensures asked { IfOk result (λ turn. (self.new.asked ≡ true) ↔ (turn ≡ Need)) }
-        // how often there are texts and reports
-        ensures spent { IfOk result (λ turn. IsSpent turn (spent self.old) (spent self.new)) }
-        ensures bound { spent self.new ≤ 2 * given self.new }
-        // what stays
-        ensures side { self.new.reader.side ≡ side.Sender }
-        ensures extent { extent self.new ≡ extent self.old }
-        ensures given { given self.new ≡ given self.old }
-        ensures first { self.new.first ≡ self.old.first }
-        ensures finished { self.new.finished ≡ self.old.finished }
-    {
-        if self.written < self.batch.len() {
-            let turn = self.write();
-            self.settle();
-            return turn;
-        }
-        self.asked = false;
-        while self.take_frame() {}
-        let turn = self.act();
+    fn turn(&mut self) -> Result<Turn, AllocError> {
+        let turn = self.next();
         self.settle();
-        Ok(turn)
+        turn
     }
+}
 
+impl LumberSender {
     // How many entries are acknowledged.
     fn known(&self) -> u64
         ensures { result ≡ known self.now }
@@ -195,8 +143,8 @@ impl LumberSender {
         requires { self.now.written ≡ length self.now.batch }
         ensures { IsDue result self.now }
     {
-        if self.stop.is_some() {
-            return Due::Stopped;
+        if let Some(at) = self.stop {
+            return Due::Stopped(at);
         }
         if self.told < self.known() {
             return Due::Confirm;
@@ -207,22 +155,25 @@ impl LumberSender {
         if self.finished { Due::End } else { Due::Ask }
     }
 
+    // Writes what is to be written, or takes the receiver's frames until something comes of them.
+    fn next(&mut self) -> Result<Turn, AllocError>
+        ensures turns { IfOk result (λ turn. TurnsSo turn self.old self.new) }
+        ensures err { OnErr result (self.new ≡ self.old) }
+        ensures kept { Keeps self.old }
+    {
+        if self.written < self.batch.len() {
+            return self.write();
+        }
+        self.asked = false;
+        while self.take_frame() {}
+        Ok(self.act())
+    }
+
     // Writes the next part of the window.
     fn write(&mut self) -> Result<Turn, AllocError>
         requires { self.old.written < length self.old.batch }
+        ensures turns { IfOk result (λ turn. TurnsSo turn self.old self.new) }
         ensures err { OnErr result (self.new ≡ self.old) }
-        ensures written { IfOk result (λ turn. IsWritten turn self.old self.new) }
-        ensures sends { IfOk result (λ turn. SendsOn self.old (text_of turn) self.new) }
-        ensures told { IfOk result (λ turn. IsTold turn self.old.told self.new.told) }
-        ensures turn { IfOk result (λ turn. IsTurn turn self.new) }
-        ensures exactly { IfOk result (λ turn. IsFor self.old turn) }
-        ensures rests { IfOk result (λ turn. IsResting turn → ⊥) }
-        ensures spent { IfOk result (λ turn. IsSpent turn (spent self.old) (spent self.new)) }
-        ensures extent { extent self.new ≡ extent self.old }
-        ensures asked { self.new.asked ≡ false }
-        ensures given { given self.new ≡ given self.old }
-        ensures first { self.new.first ≡ self.old.first }
-        ensures finished { self.new.finished ≡ self.old.finished }
     {
         let part = next_part(self.alloc, &self.batch, self.written)?;
         self.written = part.upto;
@@ -233,18 +184,8 @@ impl LumberSender {
     fn take_frame(&mut self) -> bool
         requires asked { self.old.asked ≡ false }
         requires written { self.old.written ≡ length self.old.batch }
-        ensures sends { IsTrue result → SendsOn self.old [] self.new }
-        ensures taken { IsTrue result → IsDue Hear self.old }
+        ensures took { IsTrue result → TakesSo self.old self.new }
         ensures none { result ≡ false → (self.new ≡ self.old) × (IsDue Hear self.old → self.old.reader.waiting ≡ []) }
-        ensures fewer { IsTrue result → length self.new.reader.waiting < length self.old.reader.waiting }
-        ensures asked { self.new.asked ≡ false }
-        ensures written { self.new.written ≡ length self.new.batch }
-        ensures spent { spent self.new ≡ spent self.old }
-        ensures extent { extent self.new ≡ extent self.old }
-        ensures given { given self.new ≡ given self.old }
-        ensures first { self.new.first ≡ self.old.first }
-        ensures told { self.new.told ≡ self.old.told }
-        ensures finished { self.new.finished ≡ self.old.finished }
     {
         let Due::Hear = self.due() else {
             return false;
@@ -283,10 +224,9 @@ impl LumberSender {
         requires none { self.now.reader.waiting ≡ [] }
         ensures turn { IsTurn result self.now }
         ensures exactly { IsFor self.now result }
-        ensures text { text_of result ≡ [] }
+        ensures rests { IsResting result }
         ensures need { result ≢ Need }
-        ensures told { IsTold result self.now.told self.now.told }
-        ensures spent { IsSpent result (spent self.now) (spent self.now) }
+        ensures text { text_of result ≡ [] }
     {
         match self.fault {
             Some(fault) => Turn::PeerFault {
@@ -301,18 +241,9 @@ impl LumberSender {
     fn confirm(&mut self) -> Turn
         requires due { IsDue Confirm self.old }
         requires asked { self.old.asked ≡ false }
-        ensures sends { SendsOn self.old [] self.new }
+        requires written { self.old.written ≡ length self.old.batch }
+        ensures turns { TurnsSo result self.old self.new }
         ensures text { text_of result ≡ [] }
-        ensures turn { IsTurn result self.new }
-        ensures exactly { IsFor self.old result }
-        ensures need { result ≢ Need }
-        ensures spent { IsSpent result (spent self.old) (spent self.new) }
-        ensures extent { extent self.new ≡ extent self.old }
-        ensures asked { self.new.asked ≡ false }
-        ensures given { given self.new ≡ given self.old }
-        ensures finished { self.new.finished ≡ self.old.finished }
-        ensures first { self.new.first ≡ self.old.first }
-        ensures told { IsTold result self.old.told self.new.told }
     {
         self.told = self.known();
         Turn::Confirmed {
@@ -323,10 +254,8 @@ impl LumberSender {
     // Asks for more entries.
     fn ask(&mut self) -> Turn
         requires due { Needs self.old }
-        ensures sends { SendsOn self.old [] self.new }
-        ensures turn { IsTurn result self.new }
-        ensures need { result ≡ Need }
-        ensures after { self.new ≡ record self.old { asked = true } }
+        ensures turns { TurnsSo result self.old self.new }
+        ensures text { text_of result ≡ [] }
     {
         self.asked = true;
         Turn::Need
@@ -344,28 +273,17 @@ impl LumberSender {
         requires asked { self.old.asked ≡ false }
         requires written { self.old.written ≡ length self.old.batch }
         requires heard { IsDue Hear self.old → self.old.reader.waiting ≡ [] }
+        ensures turns { TurnsSo result self.old self.new }
         ensures text { text_of result ≡ [] }
-        ensures sends { SendsOn self.old (text_of result) self.new }
-        ensures turn { IsTurn result self.new }
-        ensures exactly { IsFor self.old result }
-        ensures asked { (self.new.asked ≡ true) ↔ (result ≡ Need) }
-        ensures spent { IsSpent result (spent self.old) (spent self.new) }
-        ensures extent { extent self.new ≡ extent self.old }
-        ensures given { given self.new ≡ given self.old }
-        ensures finished { self.new.finished ≡ self.old.finished }
-        ensures first { self.new.first ≡ self.old.first }
-        ensures told { IsTold result self.old.told self.new.told }
     {
-        if let Some(at) = self.stop {
-            return Turn::PeerFault {
+        match self.due() {
+            Due::Stopped(at) => Turn::PeerFault {
                 at,
                 why: Why::Reply,
-            };
-        }
-        match self.due() {
+            },
             Due::Confirm => self.confirm(),
             Due::Ask => self.ask(),
-            Due::Stopped | Due::End => Turn::Done,
+            Due::End => Turn::Done,
             Due::Hear => self.unheard(),
         }
     }

@@ -12,3 +12,4 @@ pub mod OneDue
 pub mod Spending
 pub mod Bounds
 pub mod Sent
+pub mod Ending

@@ -11,3 +11,4 @@ pub mod Due
 pub mod Sends
 pub mod Spending
 pub mod Turns
+pub mod Outlet

@@ -9,6 +9,7 @@ mod due;
 mod hearing;
 mod joined;
 mod next;
+mod outgoing;
 mod reply;
 mod sender;
 mod stage;

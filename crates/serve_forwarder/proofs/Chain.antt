@@ -12,7 +12,7 @@ use Rattle.desk_access.specs.Call.{pends}
 use Rattle.desk_access.specs.Desk.{DeskState}
 use Rattle.forward_core.specs.Protocols.{HintsAs}
 use Rattle.forward_core.specs.declared.outward.Outward.{Outward}
-use Rattle.forward_core.specs.declared.sent.Sent.TheVariants.{PeerClosed}
+use Rattle.sending.specs.declared.sent.Sent.TheVariants.{PeerClosed}
 use Rattle.desk_seats.specs.Passes.{Known}
 use Rattle.desk_seats.specs.Ran.{Ran, ran_none, ran_more}
 use Rattle.serve_forwarder.specs.declared.destination.Destination.{Destination}

@@ -8,9 +8,9 @@ use Rattle.edge_io.specs.Net.{HungUp, NetState, SameHung, AddsHung, IsHungUp}
 use Rattle.edge_io.specs.Told.{IsToldAs, IsTold, Adds, IsFresh, IsDialed}
 use Rattle.desk_access.specs.Call.{Call}
 use Rattle.forward_core.specs.Forwarded.{CountsFaults, CountsWrites}
-use Rattle.forward_core.specs.Turning.{IsHalt}
-use Rattle.forward_core.specs.declared.sent.Sent.{Sent}
-use Rattle.forward_core.specs.declared.sent.Sent.TheVariants.{ReadFault, WriteFault}
+use Rattle.sending.specs.Turning.{IsHalt}
+use Rattle.sending.specs.declared.sent.Sent.{Sent}
+use Rattle.sending.specs.declared.sent.Sent.TheVariants.{ReadFault, WriteFault}
 use Rattle.serve_forwarder.specs.Sessions.{Session, TellsSession, HangsUp}
 
 -- ---- the bytes

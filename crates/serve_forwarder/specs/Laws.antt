@@ -4,7 +4,7 @@ use Rattle.edge_io.specs.Net.{HungUp, NetState}
 use Rattle.desk_access.specs.Desk.{DeskState}
 use Rattle.forward_core.specs.Protocols.{HintsAs}
 use Rattle.forward_core.specs.declared.outward.Outward.{Outward}
-use Rattle.forward_core.specs.declared.sent.Sent.TheVariants.{PeerClosed}
+use Rattle.sending.specs.declared.sent.Sent.TheVariants.{PeerClosed}
 use Rattle.desk_seats.specs.Passes.{Known}
 use Rattle.desk_seats.specs.Ran.{Ran}
 use Rattle.serve_forwarder.specs.declared.destination.Destination.{Destination}

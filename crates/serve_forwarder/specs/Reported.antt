@@ -8,8 +8,8 @@ use Rattle.desk_access.specs.Desk.{DeskState}
 use Rattle.forward_core.specs.Protocols.{EndsAs, HintsAs, settings_as}
 use Rattle.forward_core.specs.Session.{Ended}
 use Rattle.forward_core.specs.declared.outward.Outward.{Outward}
-use Rattle.forward_core.specs.declared.sent.Sent.{Sent}
-use Rattle.forward_core.specs.declared.sent.Sent.TheVariants.{Drained, Refused}
+use Rattle.sending.specs.declared.sent.Sent.{Sent}
+use Rattle.sending.specs.declared.sent.Sent.TheVariants.{Drained, Refused}
 use Rattle.desk_seats.specs.Passes.{Known}
 use Rattle.desk_seats.specs.Ran.{Ran}
 use Rattle.serve_forwarder.specs.Held.{IsTextBy}

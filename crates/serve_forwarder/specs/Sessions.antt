@@ -9,10 +9,10 @@ use Rattle.desk_access.specs.History.{IsDesk}
 use Rattle.forward_core.specs.Forwarded.{Asked, CountsFaults, CountsWrites, until_by}
 use Rattle.forward_core.specs.Protocols.{EndsAs, HintsAs, settings_as}
 use Rattle.forward_core.specs.Session.{Ended}
-use Rattle.forward_core.specs.Turning.{IsHalt}
+use Rattle.sending.specs.Turning.{IsHalt}
 use Rattle.forward_core.specs.declared.outward.Outward.{Outward}
-use Rattle.forward_core.specs.declared.sent.Sent.{Sent}
-use Rattle.forward_core.specs.declared.sent.Sent.TheVariants.{ReadFault, WriteFault}
+use Rattle.sending.specs.declared.sent.Sent.{Sent}
+use Rattle.sending.specs.declared.sent.Sent.TheVariants.{ReadFault, WriteFault}
 use Rattle.desk_seats.specs.Passes.{Known}
 use Rattle.desk_seats.specs.Ran.{Ran}
 use Rattle.serve_forwarder.specs.declared.destination.Destination.{Destination}

@@ -1,6 +1,6 @@
 //! Telling what holds the forwarding up.
 ghost use Rattle.std.specs.Prelude.{◌≡◌, ◌↔◌, ◌^◌, ℕ, List, length, None, Some, IfOk, IfSome, IsTrue, slice_get};
-ghost use Rattle.forward_core.specs.declared.sent.Sent.TheVariants.{Drained};
+ghost use Rattle.sending.specs.declared.sent.Sent.TheVariants.{Drained};
 ghost use Rattle.event_form.specs.Event.{IsEvent};
 ghost use Rattle.edge_io.specs.declared.held_up.HeldUp.{HeldUp};
 ghost use Rattle.spool_answers.specs.Pend.{AreNumbered};

@@ -20,8 +20,8 @@ use Rattle.desk_access.proofs.Steps.{goes_later}
 use Rattle.forward_core.specs.Calls.{MarksAllBelow, after_last, entries_of, next_of, read_of}
 use Rattle.forward_core.specs.Protocols.{EndsAs, HintsAs}
 use Rattle.forward_core.specs.Session.{Ended}
-use Rattle.forward_core.specs.Settings.{Settings}
-use Rattle.forward_core.specs.declared.sent.Sent.TheVariants.{Drained}
+use Rattle.sending.specs.Settings.{Settings}
+use Rattle.sending.specs.declared.sent.Sent.TheVariants.{Drained}
 use Rattle.forward_core.proofs.AfterLaw.{leaves_rest, only_marked_known}
 use Rattle.forward_core.proofs.CallLists.{below_next}
 use Rattle.forward_core.proofs.Counting.{none_above}

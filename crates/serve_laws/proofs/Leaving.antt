@@ -14,8 +14,8 @@ use Rattle.desk_access.proofs.Steps.{goes_later}
 use Rattle.forward_core.specs.Protocols.{EndsAs, HintsAs, settings_as}
 use Rattle.forward_core.specs.Session.{Ended}
 use Rattle.forward_core.specs.declared.outward.Outward.{Outward}
-use Rattle.forward_core.specs.declared.sent.Sent.{Sent}
-use Rattle.forward_core.specs.declared.sent.Sent.TheVariants as Ending
+use Rattle.sending.specs.declared.sent.Sent.{Sent}
+use Rattle.sending.specs.declared.sent.Sent.TheVariants as Ending
 use Rattle.desk_seats.specs.Passes.{Known}
 use Rattle.desk_seats.specs.Ran.{Ran}
 use Rattle.serve_forwarder.specs.declared.destination.Destination.{Destination}

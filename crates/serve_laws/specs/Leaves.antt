@@ -6,7 +6,7 @@ use Rattle.spool_state.specs.Image.{StandsFor}
 use Rattle.spool_state.specs.Left.{left}
 use Rattle.desk_access.specs.Call.{Record}
 use Rattle.desk_access.specs.Desk.{DeskState, Goes}
-use Rattle.forward_core.specs.declared.sent.Sent.TheVariants.{Drained}
+use Rattle.sending.specs.declared.sent.Sent.TheVariants.{Drained}
 use Rattle.serve_forwarder.specs.declared.looking.Outcome.{Outcome}
 use Rattle.serve_forwarder.specs.declared.looking.Outcome.TheVariants.{Idle, Held}
 

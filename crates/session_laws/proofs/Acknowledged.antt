@@ -13,9 +13,9 @@ use Rattle.desk_access.specs.Call.{Call}
 use Rattle.forward_core.specs.Calls.{IsMarked, after_last, is_within, number_at}
 use Rattle.forward_core.specs.Marking.{MarksOnlyTold}
 use Rattle.forward_core.specs.Session.{MarksBy}
-use Rattle.forward_core.specs.Settings.{Settings}
-use Rattle.forward_core.specs.declared.sent.Sent.{Sent}
-use Rattle.forward_core.specs.declared.sent.Sent.TheVariants as Ending
+use Rattle.sending.specs.Settings.{Settings}
+use Rattle.sending.specs.declared.sent.Sent.{Sent}
+use Rattle.sending.specs.declared.sent.Sent.TheVariants as Ending
 use Rattle.forward_core.proofs.Numbered.{after_within, numbered_lower, numbered_take}
 use Rattle.forward_core.proofs.Rest.{given_as, one_entry}
 use Rattle.serve_forwarder.specs.Sessions.{Session}

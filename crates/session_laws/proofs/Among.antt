@@ -18,7 +18,7 @@ use Rattle.desk_access.specs.History.{Grown}
 use Rattle.desk_access.specs.Legal.{all_of}
 use Rattle.desk_access.proofs.Growth.{grown_self}
 use Rattle.forward_core.specs.Calls.{next_of, read_of}
-use Rattle.forward_core.specs.Settings.{Settings}
+use Rattle.sending.specs.Settings.{Settings}
 use Rattle.forward_core.proofs.CallLists.{below_next}
 use Rattle.forward_core.proofs.Rest.{all_rise, as_given, as_given_entries, entries_as_given, list_limits, one_entry, some_rise}
 use Rattle.serve_forwarder.specs.Sessions.{Session}

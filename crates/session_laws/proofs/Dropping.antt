@@ -13,8 +13,8 @@ use Rattle.desk_access.specs.Call.{Call}
 use Rattle.forward_core.specs.Calls.{AreGranted, IsMarked, MarksAllBelow, after_last, entries_of, is_within, number_at}
 use Rattle.forward_core.specs.Marking.{MarksTold}
 use Rattle.forward_core.specs.Protocols.{EndsAs}
-use Rattle.forward_core.specs.Turning.{IsTold}
-use Rattle.forward_core.specs.declared.sent.Sent.TheVariants.{Drained}
+use Rattle.sending.specs.Turning.{IsTold}
+use Rattle.sending.specs.declared.sent.Sent.TheVariants.{Drained}
 use Rattle.forward_core.proofs.DropLaw.{all_told, below_end, granted_of, told_of}
 use Rattle.forward_core.proofs.Numbered.{numbered_lower, numbered_take}
 use Rattle.forward_core.proofs.Rest.{given_as, one_entry}

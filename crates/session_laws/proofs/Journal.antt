@@ -18,7 +18,7 @@ use Rattle.desk_access.specs.Legal.{all_of}
 use Rattle.desk_access.proofs.Growth.{grown_self}
 use Rattle.desk_access.proofs.Steps.{goes_later, one_later}
 use Rattle.forward_core.specs.Protocols.{settings_as}
-use Rattle.forward_core.specs.Settings.{Settings}
+use Rattle.sending.specs.Settings.{Settings}
 use Rattle.forward_core.specs.declared.outward.Outward.{Outward}
 use Rattle.desk_seats.specs.Passes.{Known, known}
 use Rattle.desk_seats.specs.Ran.{Ran}

@@ -22,7 +22,7 @@ use Rattle.desk_access.proofs.Growth.{grown_then}
 use Rattle.forward_core.specs.Calls.{is_within}
 use Rattle.forward_core.specs.Protocols.{EndsAs, HintsAs}
 use Rattle.forward_core.specs.Session.{Ended}
-use Rattle.forward_core.specs.Settings.{Settings}
+use Rattle.sending.specs.Settings.{Settings}
 use Rattle.forward_core.proofs.Rest.{as_given, left_rise, one_entry}
 use Rattle.serve_forwarder.specs.Sessions.{Session}
 use Rattle.session_laws.specs.Beside.{EndsAmong, KnowsMarked, MarksAlone, course_of}

@@ -15,9 +15,9 @@ use Rattle.forward_core.specs.Calls.{AreGranted, IsMarked, MarksAllBelow, entrie
 use Rattle.forward_core.specs.Laws.{known_by}
 use Rattle.forward_core.specs.Protocols.{EndsAs}
 use Rattle.forward_core.specs.Session.{EndsBy, MarksBy}
-use Rattle.forward_core.specs.Settings.{Settings}
-use Rattle.forward_core.specs.Turning.{IsTold}
-use Rattle.forward_core.specs.declared.sent.Sent.TheVariants.{Drained}
+use Rattle.sending.specs.Settings.{Settings}
+use Rattle.sending.specs.Turning.{IsTold}
+use Rattle.sending.specs.declared.sent.Sent.TheVariants.{Drained}
 use Rattle.desk_seats.specs.Passes.{LeadsAbove, upto_first}
 use Rattle.serve_forwarder.specs.Sessions.{Session}
 

@@ -10,8 +10,8 @@ use Rattle.desk_access.specs.Call.{Record}
 use Rattle.desk_access.specs.Desk.{DeskState}
 use Rattle.forward_core.specs.Protocols.{EndsAs, HintsAs}
 use Rattle.forward_core.specs.Session.{Ended}
-use Rattle.forward_core.specs.Settings.{Settings}
-use Rattle.forward_core.specs.Turning.{IsHalt}
+use Rattle.sending.specs.Settings.{Settings}
+use Rattle.sending.specs.Turning.{IsHalt}
 use Rattle.serve_forwarder.specs.Sessions.{Session}
 use Rattle.session_laws.specs.Beside.{Course, DropsAmong, EndsAmong, IsAmong, KnowsMarked, course_of, history}
 use Rattle.session_laws.specs.Led.{Led}

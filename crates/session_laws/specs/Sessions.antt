@@ -12,8 +12,8 @@ use Rattle.desk_access.specs.Desk.{DeskState, Goes}
 use Rattle.desk_access.specs.History.{IsDesk}
 use Rattle.forward_core.specs.Calls.{IsMarked, number_at}
 use Rattle.forward_core.specs.Protocols.{settings_as}
-use Rattle.forward_core.specs.Settings.{Settings}
-use Rattle.forward_core.specs.Turning.{IsTold}
+use Rattle.sending.specs.Settings.{Settings}
+use Rattle.sending.specs.Turning.{IsTold}
 use Rattle.forward_core.specs.declared.outward.Outward.{Outward}
 use Rattle.desk_seats.specs.Passes.{Known}
 use Rattle.serve_forwarder.specs.declared.destination.Destination.{Destination}

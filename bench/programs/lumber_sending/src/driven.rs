@@ -6,6 +6,7 @@ ghost use Rattle.lumber_sender.specs.Sender.{extent};
 use anyhow::bail;
 use event_form::{Blob, Entry, Event, Origin, Turn};
 use lumber_sender::{LumberSender, WINDOW};
+use sending::Outgoing;
 use std::alloc::{AllocError, Global};
 use std::marker::Model;
 

@@ -8,7 +8,7 @@ mod parts;
 #[cfg(test)]
 mod receiving;
 #[cfg(test)]
-mod sending;
+mod senders;
 #[cfg(test)]
 mod streams;
 #[cfg(test)]

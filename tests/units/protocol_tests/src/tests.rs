@@ -1,5 +1,5 @@
 //! All that holds of streams, of sessions and of senders.
-use crate::sending::{hec, lumber, relp};
+use crate::senders::{hec, lumber, relp};
 use crate::{receiving, streams};
 
 #[test]

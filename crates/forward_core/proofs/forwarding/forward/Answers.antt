@@ -6,9 +6,9 @@ use Rattle.desk_access.specs.Call.{Call}
 use Rattle.forward_core.specs.Acknowledged.{IsAcknowledged, MayRelease}
 use Rattle.forward_core.specs.Leave.{MayMark}
 use Rattle.forward_core.specs.Forwarded.{Forwards, until_by}
-use Rattle.forward_core.specs.Hec.{settings_of}
+use Rattle.hec_sender.specs.Outlet.{settings_of}
 use Rattle.forward_core.specs.Protocols.{EndsAs, HintsAs, settings_as}
-use Rattle.forward_core.specs.Settings.{Settings}
+use Rattle.sending.specs.Settings.{Settings}
 use Rattle.forward_core.specs.Moments.{told}
 use Rattle.forward_core.proofs.Beginning.{forwards_nothing}
 use Rattle.forward_core.proofs.Earning.{earned_first}

@@ -21,7 +21,7 @@ returns-in_err-mark-clause-ends g c =
     (record {
       calls = ran.0 ∷ [];
       made = ran.1;
-      is = unmarked_by (g.S.Outgoing.has_sent s) (g.S.Outgoing.ends (g.S.Outgoing.settings s)) g.S.Outgoing.hints (g.S.Outgoing.finished s) _ _ _ old c.requires.agrees c.requires.halts sent ran.0 c.args.total.now (g.L.Source.left link) ran.2;
+      is = unmarked_by (g.S.Outgoing.has_sent s) (g.S.Outgoing.ends (g.S.Outgoing.settings s)) g.S.Outgoing.hints (g.S.Outgoing.standing s) old c.requires.agrees c.requires.halts sent ran.0 c.args.total.now (g.L.Source.left link) ran.2;
     }))
 
 pub returns-clause-goes : goal.returns-clause-goes
@@ -44,7 +44,7 @@ returns-clause-ends g c =
     err_then c.listen.result _ _ c.listen.ensures.unheard
     (unheard (g.S.Outgoing.has_sent s) c.args.course.now c.mark.new.course c.in_ok-mark.ensures.marked c.mark.ensures.rest (λ calls. g.A.Access.ran c.args.access.now calls c.mark.new.access) ran.0 ran.2 ran.1
     (g.L.Source.given was) (g.L.Source.given now) (g.L.Source.left was) (g.L.Source.left now) (g.L.Sink.taken was) (g.L.Sink.taken now) keeps.0 c.args.total.now
-    (g.S.Outgoing.ends (g.S.Outgoing.settings s)) g.S.Outgoing.hints (g.S.Outgoing.finished s) _ _ _ c.requires.agrees c.requires.halts c.requires.waits)
+    (g.S.Outgoing.ends (g.S.Outgoing.settings s)) g.S.Outgoing.hints (g.S.Outgoing.standing s) c.requires.agrees c.requires.halts c.requires.waits)
 
 pub returns-in_err-mark-clause-marks : goal.returns-in_err-mark-clause-marks
 returns-in_err-mark-clause-marks g c =

@@ -1,13 +1,13 @@
-use Rattle.std.proofs.Common.{◌≡◌, ◌∙◌, ℕ, ◌+◌, ◌≤◌, ◌^◌, true, false, List, [], ◌∷◌, ◌++◌, All, length, ap, sym, subst, arith}
+use Rattle.std.proofs.Common.{◌≡◌, ◌∙◌, ℕ, ◌+◌, ◌<◌, ◌≤◌, ◌^◌, true, false, List, [], ◌∷◌, ◌++◌, length, ap, sym, subst, arith}
 use Rattle.std.specs.Prelude.{Ok}
 use Rattle.std.proofs.lemmas.List.{append-nil, nil_from_length}
 use Rattle.std.proofs.lemmas.Grind.{common_steps}
-use Rattle.event_form.specs.Event.{IsEvent}
 use Rattle.event_form.specs.declared.event.Entry.{Entry}
 use Rattle.desk_access.specs.Call.{pends}
 use Rattle.forward_core.specs.Calls.{entries_of, within}
 use Rattle.forward_core.specs.Moments.{LeadsBy}
 use Rattle.forward_core.specs.Session.{Stands}
+use Rattle.sending.specs.Standing.{MayGive}
 use Rattle.forward_core.proofs.Handing.{added_of, agrees_given, batch_events, batch_small, counted, less_counted, ok_by}
 use Rattle.forward_core.proofs.Standing.{stands_added}
 use Rattle.forward_core.proofs.refill.hand.Goals as goal
@@ -27,24 +27,23 @@ returns-then-is_empty-clause-stands g c =
     (added_of old c.add.new.self c.args.batch c.args.room given c.requires.room is adds)
     (λ entries fed out also h. subst (λ (l : List Entry). g.S.Outgoing.has_sent c.args.sender.now l fed out also) (sym (append-nil entries) ∙ ap (λ (l : List Entry). entries ++ l) (sym w)) h))
 
-pub give-requires-clause-few : goal.give-requires-clause-few
-give-requires-clause-few g c =
-    let adds = ok_by c.add.result _ c.add.ensures.ok (sym c.is_err.ensures.value ∙ c.if-is_err.false) in
-    let count = counted c.args.course.now c.add.new.self c.args.batch c.args.room c.requires.more c.requires.room c.requires.batch adds in
-    subst (λ (l : List Entry). length l ≤ 128) (sym (ap (λ v. v.items) c.add.ensures.entries)) count.few
-
-pub give-requires-clause-limits : goal.give-requires-clause-limits
-give-requires-clause-limits g c =
-    subst (λ (l : List Entry). All (λ (e : Entry). IsEvent e.event) l) (sym (ap (λ v. v.items) c.add.ensures.entries)) (batch_events c.args.course.now c.args.room c.args.batch c.requires.batch)
-
-pub give-requires-clause-number : goal.give-requires-clause-number
-give-requires-clause-number g c =
+pub give-requires-clause-may : goal.give-requires-clause-may
+give-requires-clause-may g c =
     let old = c.args.course.now in
+    let a = c.requires.agrees in
+    let st = g.S.Outgoing.standing c.args.sender.now in
     let adds = ok_by c.add.result _ c.add.ensures.ok (sym c.is_err.ensures.value ∙ c.if-is_err.false) in
     let count = counted old c.add.new.self c.args.batch c.args.room c.requires.more c.requires.room c.requires.batch adds in
-    let limit : old.end ≤ 2 ^ 63 = old.limit in
-    let sum : old.given + length c.args.batch.entries.items ≤ 2 ^ 63 = omega (arith, count.count, count.within, count.end, c.requires.agrees.few, limit) in
-    subst (λ (l : List Entry). old.given + length l ≤ 2 ^ 63) (sym (ap (λ v. v.items) c.add.ensures.entries)) sum
+    subst (MayGive st old.given) (sym (ap (λ v. v.items) c.add.ensures.entries))
+    (record {
+      asked = c.requires.asked;
+      some = (let left : 0 < length c.add.new.batch.entries.items = grind (arith, common_steps) in subst (λ (l : List Entry). 0 < length l) (ap (λ v. v.items) c.add.ensures.entries) left);
+      few = count.few;
+      limits = batch_events old c.args.room c.args.batch c.requires.batch;
+      whole = (let q = a.whole c.requires.more in (q.0, a.given_is ∙ q.1));
+      next = λ some. (let zero : st.first ≡ 0 = a.first_is (omega (arith, some, a.given_is)) in omega (arith, zero, a.given_is));
+      fits = (let limit : old.end ≤ 2 ^ 63 = old.limit in omega (arith, count.count, count.within, count.end, a.few, limit));
+    })
 
 pub returns-clause-stands : goal.returns-clause-stands
 returns-clause-stands g c =
@@ -62,8 +61,8 @@ returns-clause-agrees g c =
     let old = c.args.course.now in
     let adds = ok_by c.add.result _ c.add.ensures.ok (sym c.is_err.ensures.value ∙ c.if-is_err.false) in
     let count = counted old c.add.new.self c.args.batch c.args.room c.requires.more c.requires.room c.requires.batch adds in
-    agrees_given old c.add.new.self c.args.batch _ _ _ _ _ _ _ _ count adds.told adds.over c.requires.unfinished c.requires.agrees
-    (c.give.ensures.given ∙ ap (λ v. g.S.Outgoing.given c.args.sender.now + length v.items) c.add.ensures.entries) c.give.ensures.told c.give.ensures.first c.give.ensures.finished
+    agrees_given old c.add.new.self c.args.batch (g.S.Outgoing.standing c.args.sender.now) (g.S.Outgoing.standing c.give.new.self) _ count adds.told adds.over c.requires.unfinished c.requires.agrees
+    (ap (λ v. length v.items) c.add.ensures.entries) c.give.ensures.stands
 
 pub returns-clause-less : goal.returns-clause-less
 returns-clause-less g c =

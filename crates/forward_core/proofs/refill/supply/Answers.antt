@@ -14,7 +14,7 @@ returns-in_err-mark-clause-halts g c =
       record {
         calls = ran.0 ∷ [];
         made = ran.1;
-        is = λ total left. unmarked_by (g.S.Outgoing.has_sent s) (g.S.Outgoing.ends (g.S.Outgoing.settings s)) g.S.Outgoing.hints (g.S.Outgoing.finished s) _ _ _ old c.requires.agrees c.requires.halts sent ran.0 total left ran.2;
+        is = λ total left. unmarked_by (g.S.Outgoing.has_sent s) (g.S.Outgoing.ends (g.S.Outgoing.settings s)) g.S.Outgoing.hints (g.S.Outgoing.standing s) old c.requires.agrees c.requires.halts sent ran.0 total left ran.2;
       },
     )
 

@@ -13,8 +13,8 @@ invariant-turns g l = record {
   may : g.A.Access.may_confirm l.access;
   end_known : l.course.end ≤ g.A.Access.end_known l.access;
   same_end : l.course.end ≡ l.fn.course.end;
-  agrees : Agrees (g.S.Outgoing.given l.sender) (g.S.Outgoing.told l.sender) (g.S.Outgoing.first l.sender) (g.S.Outgoing.finished l.sender) l.course;
-  fed : g.S.Outgoing.extent l.sender ≤ l.total;
+  agrees : Agrees (g.S.Outgoing.standing l.sender) l.course;
+  fed : (g.S.Outgoing.standing l.sender).extent ≤ l.total;
   within : l.total ≤ 2 ^ 40;
   settings : g.S.Outgoing.settings l.sender ≡ g.S.Outgoing.settings l.fn.sender;
   reads : g.L.Source.read_faults l.link ≡ g.L.Source.read_faults l.fn.link;
@@ -26,4 +26,4 @@ invariant-turns g l = record {
 }
 
 abbrev pub decreases-turns : goal.decreases-turns
-decreases-turns g l = work_left l.total (g.S.Outgoing.spent l.sender) l.course
+decreases-turns g l = work_left l.total (g.S.Outgoing.standing l.sender).spent l.course

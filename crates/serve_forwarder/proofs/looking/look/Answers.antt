@@ -7,7 +7,7 @@ use Rattle.desk_access.specs.History.{IsDesk}
 use Rattle.desk_seats.specs.Passes.{Known}
 use Rattle.desk_seats.specs.Ran.{more_real, ran_more, Ran}
 use Rattle.forward_core.specs.Forwarded.{Asked}
-use Rattle.forward_core.specs.declared.sent.Sent.{Sent}
+use Rattle.sending.specs.declared.sent.Sent.{Sent}
 use Rattle.serve_forwarder.specs.declared.looking.Outcome.TheVariants as outcome
 use Rattle.serve_forwarder.specs.Looks.{Idle, Unread, Undialed, Held, Look, first_of, offer_at, stuck_from}
 use Rattle.serve_forwarder.specs.Released.{HasAsked}

@@ -1,21 +1,28 @@
-use Rattle.std.proofs.Common.{ℕ, List, sym, ap, subst}
-use Rattle.event_form.specs.declared.turn.Turn.{Turn}
-use Rattle.lumber_sender.specs.Sends.{SendsOn}
-use Rattle.event_form.specs.Turn.{text_of}
-use Rattle.lumber_sender.proofs.Writing.{sends_none}
+use Rattle.std.proofs.Common.{inl, refl}
+use Rattle.event_form.specs.declared.talk.Why.TheVariants.{Reply}
+use Rattle.event_form.specs.declared.turn.Turn.TheVariants.{Done, PeerFault}
+use Rattle.lumber_sender.proofs.Telling.{for_end, for_stopped}
+use Rattle.lumber_sender.proofs.Turned.{turned_rest}
 use Rattle.lumber_sender.proofs.sender.LumberSender.act.Goals as goal
 
-pub returns-in-Some-clause-sends : goal.returns-in-Some-clause-sends
-returns-in-Some-clause-sends c = sends_none c.args.self.now
+pub returns-in-Stopped-clause-turns : goal.returns-in-Stopped-clause-turns
+returns-in-Stopped-clause-turns c =
+    let s = c.args.self.now in
+    let at = c.in-Stopped.at in
+    turned_rest (PeerFault at Reply) s tt (λ e. cc) c.requires.asked (inl (c.in-Stopped.ensures, refl)) (for_stopped s at c.in-Stopped.ensures c.requires.written)
 
-pub returns-in-Stopped-clause-sends : goal.returns-in-Stopped-clause-sends
-returns-in-Stopped-clause-sends c = sends_none c.args.self.now
+pub returns-in-Confirm-clause-turns : goal.returns-in-Confirm-clause-turns
+returns-in-Confirm-clause-turns c = c.confirm.ensures.turns
 
-pub returns-in-Confirm-clause-sends : goal.returns-in-Confirm-clause-sends
-returns-in-Confirm-clause-sends c = subst (λ (l : List ℕ). SendsOn c.args.self.now l c.confirm.new.self) (sym c.confirm.ensures.text) c.confirm.ensures.sends
+pub returns-in-Ask-clause-turns : goal.returns-in-Ask-clause-turns
+returns-in-Ask-clause-turns c = c.ask.ensures.turns
 
-pub returns-in-Ask-clause-sends : goal.returns-in-Ask-clause-sends
-returns-in-Ask-clause-sends c = subst (λ (t : Turn). SendsOn c.args.self.now (text_of t) c.ask.new.self) (sym c.ask.ensures.need) c.ask.ensures.sends
+pub returns-in-End-clause-turns : goal.returns-in-End-clause-turns
+returns-in-End-clause-turns c =
+    let s = c.args.self.now in
+    turned_rest Done s tt (λ e. cc) c.requires.asked c.in-End.ensures (for_end s c.in-End.ensures)
 
-pub returns-in-Ask-clause-text : goal.returns-in-Ask-clause-text
-returns-in-Ask-clause-text c = ap text_of c.ask.ensures.need
+pub returns-clause-turns : goal.returns-clause-turns
+returns-clause-turns c =
+    let e = c.unheard.ensures in
+    turned_rest c.unheard.result c.args.self.now e.rests e.need c.requires.asked e.turn e.exactly
