@@ -8,13 +8,13 @@ ghost use Rattle.sending.specs.declared.sent.Sent.TheVariants as Ending;
 
 use crate::begin::begin;
 use crate::outward::Outward;
-use sending::Sent;
 use crate::session::run;
 use desk_access::Access;
 use edge_io::{Link, Pause, Proto};
 use hec_sender::HecSender;
 use lumber_sender::LumberSender;
 use relp_sender::RelpSender;
+use sending::Sent;
 use std::alloc::Global;
 
 /// Sends the entries from the desk's cursor to its end, as both stand at its start, to the peer of the link, in the

@@ -13,9 +13,9 @@ ghost use Rattle.sending.specs.declared.sent.Sent.TheVariants as Ending;
 use crate::course::Course;
 use crate::listen::listen;
 use crate::marking::mark;
-use sending::{Outgoing, Sent};
 use desk_access::Access;
 use edge_io::Link;
+use sending::{Outgoing, Sent};
 
 /// Marks what is told, and reads the peer's bytes once. The error is the ending.
 pub(crate) fn hear<L: Link, A: Access, S: Outgoing>(

@@ -5,8 +5,8 @@ ghost use Rattle.forward_core.specs.Hearing.{Hears, Unheard};
 ghost use Rattle.sending.specs.Standing.{SameEntries};
 ghost use Rattle.sending.specs.declared.sent.Sent.TheVariants as Ending;
 
-use sending::{Outgoing, Sent};
 use edge_io::Link;
+use sending::{Outgoing, Sent};
 
 /// How many bytes a read asks for at most.
 const PIECE: usize = 65_536;

@@ -6,8 +6,8 @@ ghost use Rattle.forward_core.specs.Marking.{sent_by, EndsSo, MarksSo};
 ghost use Rattle.forward_core.specs.Course.{SameTold};
 
 use crate::course::Course;
-use sending::Sent;
 use desk_access::Access;
+use sending::Sent;
 use spool_answers::ConfirmFault;
 
 // The ending by a mark that was refused.

@@ -16,9 +16,9 @@ ghost use Rattle.sending.specs.declared.sent.Sent.TheVariants as Ending;
 
 use crate::course::Course;
 use crate::marking::mark;
-use sending::{Outgoing, Sent};
 use desk_access::Access;
 use event_form::Entry;
+use sending::{Outgoing, Sent};
 use spool_answers::{Numbered, PendFault};
 use std::alloc::{AllocError, Global};
 use std::collections::VecDeque;

@@ -14,13 +14,12 @@ ghost use Rattle.sending.specs.declared.sent.Sent.TheVariants as Ending;
 use crate::course::Course;
 use crate::hear::hear;
 use crate::marking::ended;
-use sending::Outgoing;
 use crate::refill::supply;
-use sending::Sent;
 use crate::write::write;
 use desk_access::Access;
 use edge_io::{Link, Pause};
 use event_form::Turn;
+use sending::{Outgoing, Sent};
 use std::alloc::Global;
 
 // The ending of a turn that ends the session.

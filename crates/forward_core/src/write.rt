@@ -10,9 +10,9 @@ ghost use Rattle.sending.specs.declared.sent.Sent.TheVariants as Ending;
 
 use crate::course::Course;
 use crate::marking::ended;
-use sending::Sent;
 use desk_access::Access;
 use edge_io::{Link, write_whole};
+use sending::Sent;
 
 /// Writes a text to a link that takes any. The error is the ending: a write failed, and what is told was marked, or that was refused.
 pub(crate) fn write<L: Link, A: Access>(

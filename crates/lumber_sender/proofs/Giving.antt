@@ -8,8 +8,8 @@ use Rattle.lumber_frame.specs.declared.frame.LumberFrame.{LumberFrame}
 use Rattle.lumber_frame.specs.Reading.{Reader, Reads, ReadsOn}
 use Rattle.lumber_sender.specs.Windows.{windows_text, part_text}
 use Rattle.lumber_sender.specs.Progress.{Stops}
-use Rattle.sending.specs.Standing.{Gave, MayGive}
-use Rattle.lumber_sender.specs.Sender.{Sender, Keeps, Needs, given, standing_of}
+use Rattle.sending.specs.Standing.{Fed, Gave, MayGive}
+use Rattle.lumber_sender.specs.Sender.{Sender, Keeps, Needs, extent, given, standing_of}
 use Rattle.lumber_sender.specs.Sends.{Past, Sends, CanHave, HasRead}
 use Rattle.lumber_sender.proofs.Reading.{heard_same, heard_fed}
 
@@ -182,3 +182,7 @@ keeps_fed s r piece k on is bound = record {
   even = k.even;
   ended = λ at e. let w = k.ended at e in record { told = w.told; some = w.some; whole = w.whole };
 }
+
+-- where it stands then
+pub fed_so : (s : Sender) (r : Reader) (count : ℕ) → r.at + length r.rest ≤ extent s + count → Fed count (standing_of s) (standing_of (record s { reader = r }))
+fed_so s r count room = record { same = record { first = refl; given = refl; told = refl; spent = refl; finished = refl }; extent = room }

@@ -70,10 +70,10 @@ backs s k = record {
 -- what was told is what is acknowledged
 tells_all : (turn : Turn) (s : Sender) → Keeps s → IsTurn turn s → HasTold turn → (h : Past) (more : List Entry) → Sends h s → TellsAll lumberjack (h.entries ++ more) h.progress s.told h.also
 tells_all turn s k is told h more was =
-    let all = tells_at turn s k is told h was in
+    let known = tells_at turn s k is told h was in
     record {
-      front = all;
-      all = λ place. ((λ less. inl (omega (arith, less, all))), of_first s.told h.also (λ (p : ℕ). p < known_by h.progress) was.alone (λ p less. omega (arith, less, all)) place);
+      front = known;
+      all = λ place. ((λ less. inl (omega (arith, less, known))), of_first s.told h.also (λ (p : ℕ). p < known_by h.progress) was.alone (λ p less. omega (arith, less, known)) place);
     }
 
 wholly : (turn : Turn) (s : Sender) → Keeps s → IsTurn turn s → HasTold turn → IsResting turn → turn ≢ Need → IsWholly lumberjack (By s) (standing_of s)
@@ -113,7 +113,7 @@ tabled (Write text) old new t k l = record {
   waits = λ is. absurd cc;
   cuts = cuts lumberjack (By new) (standing_of new) (backs new l) text (By old) (λ h was. t.sends h was) (λ h more may was. tells_all (Write text) new l t.is tt h more was)
       (λ h more part may was. of_first new.told h.also (IsSent (h.entries ++ more) (h.out ++ part)) was.alone
-      (λ place less. sent_still (h.entries ++ more) h.out part place (sent_at old k h more was (may_before (Write text) old new more t may) place (omega (arith, less, t.stands.told)))));
+      (λ place less. (let same : new.told ≡ old.told = t.stands.told in sent_still (h.entries ++ more) h.out part place (sent_at old k h more was (may_before (Write text) old new more t may) place (omega (arith, less, same))))));
 }
 tabled (PeerFault at why) old new t k l = record {
   ends = λ sent is. subst (MayEndBy (HasSent (By new)) (table_of lumberjack) (standing_of new)) (sym is) (fault new at why l t.is);
@@ -172,6 +172,6 @@ pub stays : {E : Type 0} (r : Result Turn E) (old new : Sender) → Keeps new �
 stays (Ok turn) old new k e t = stays_by old new k (ap (λ (s : Standing). s.given) t.same) t.same
 stays (Err x) old new k e t = stays_by old new k (ap given e) (ap (λ (s : Sender). record (standing_of s) { told = new.told; spent = spent new; asked = new.asked }) e)
 
-pub does_turn : (r : Result Turn AllocError) (old new : Sender) → Keeps new → OnErr r (new ≡ old) → IfOk r (λ turn. TurnsSo turn old new) → Does (turns r) old new
-does_turn (Ok turn) old new k e t = record { so = t; keeps = k; whole = text_at turn new k t.is }
-does_turn (Err x) old new k e t = (e, k)
+pub does_turn : (r : Result Turn AllocError) (old new : Sender) → Keeps old → Keeps new → OnErr r (new ≡ old) → IfOk r (λ turn. TurnsSo turn old new) → Does (turns r) old new
+does_turn (Ok turn) old new k l e t = record { so = t; kept = k; keeps = l; whole = text_at turn new l t.is }
+does_turn (Err x) old new k l e t = (e, l)

@@ -27,24 +27,29 @@ use Rattle.lumber_sender.proofs.Writing.{not_asked, sends_none, sends_part, send
 pub turned_write : (s : Sender) (upto : ℕ) (text : List ℕ) → Keeps s → s.written < length s.batch → IsPart s.batch s.written upto text → 0 < length text → TurnsSo (Write text) s (record s { written = upto })
 turned_write s upto text k lt part some =
     let u = k.unheard lt in
+    let told : s.told ≡ s.done + s.acked = omega (arith, u.told, u.acked) in
+    let more : spent s < spent (record s { written = upto }) = omega (arith, part.some) in
     record {
       sends = sends_part s upto text part.is;
       written = (refl, part);
-      is = (some, u.goes, omega (arith, u.told, u.acked));
+      is = (some, u.goes, told);
       exactly = for_write s text k lt;
-      stands = record { told = refl; also = tt; asked = unasked (Write text) s.asked (not_asked s s.asked refl k lt) (λ e. cc); unfinished = λ e. absurd cc; spent = omega (arith, part.some) };
+      stands = record { told = refl; also = tt; asked = unasked (Write text) s.asked (not_asked s s.asked refl k lt) (λ e. cc); unfinished = λ e. absurd cc; spent = more };
       same = refl;
     }
 
 pub turned_confirm : (s : Sender) (told : ℕ) → told ≡ known s → IsDue Confirm s → s.asked ≡ false → s.written ≡ length s.batch → TurnsSo (Confirmed (s.first + told)) s (record s { told = told })
-turned_confirm s told is due asked all = record {
-  sends = sends_told s told s.asked;
-  written = tt;
-  is = (due.0, is, refl);
-  exactly = subst (λ (n : ℕ). IsFor s (Confirmed (s.first + n))) (sym is) (for_confirm s due all);
-  stands = record { told = (omega (arith, due.1, is), refl); also = tt; asked = unasked (Confirmed (s.first + told)) s.asked asked (λ e. cc); unfinished = λ e. absurd cc; spent = omega (arith, due.1, is) };
-  same = refl;
-}
+turned_confirm s told is due asked all =
+    let less : s.told < told = omega (arith, due.1, is) in
+    let more : spent s < spent (record s { told = told }) = omega (arith, due.1, is) in
+    record {
+      sends = sends_told s told s.asked;
+      written = tt;
+      is = (due.0, is, refl);
+      exactly = subst (λ (n : ℕ). IsFor s (Confirmed (s.first + n))) (sym is) (for_confirm s due all);
+      stands = record { told = (less, refl); also = tt; asked = unasked (Confirmed (s.first + told)) s.asked asked (λ e. cc); unfinished = λ e. absurd cc; spent = more };
+      same = refl;
+    }
 
 pub turned_ask : (s : Sender) → Needs s → TurnsSo Need s (record s { asked = true })
 turned_ask s n = record {

@@ -1,5 +1,5 @@
 -- What a sender does next, and where each turn comes.
-use Rattle.std.specs.Prelude.{◌≡◌, ◌⊎◌, ℕ, ◌+◌, ◌-◌, ◌<◌, true, false, List, [], length, Some, None, Ok, Err}
+use Rattle.std.specs.Prelude.{◌≡◌, ◌⊎◌, ℕ, ◌+◌, ◌-◌, ◌<◌, true, false, List, [], ◌++◌, length, Some, None, Ok, Err, OnOk}
 use Rattle.event_form.specs.declared.talk.Why.TheVariants as why
 use Rattle.lumber_frame.specs.declared.fault.LumberFault.{LumberFault}
 use Rattle.lumber_frame.specs.Why.{why_of}
@@ -66,13 +66,17 @@ pub record TakesSo (old new : Sender) : Type 0 where
 -- as far as it may be written by then.
 pub record TurnsWhole (turn : Turn) (old new : Sender) : Type 0 where
   pub so : TurnsSo turn old new
+  pub kept : Keeps old
   pub keeps : Keeps new
   pub whole : IsResting turn → (h : Past) → Sends h new → h.out ≡ session_text h.entries h.progress
 
 -- what each call makes of a sender
 abbrev pub Does : Deed → Sender → Sender → Type 0
-Does (gives number entries) old new = new ≡ record old { batch = entries; written = 0; first = number - given old; asked = false }
-Does finishes old new = new ≡ record old { finished = true; asked = false }
-Does (feeds piece result) old new = new ≡ record old { reader = new.reader }
+Does (gives number entries) old new =
+    (new ≡ record old { batch = entries; written = 0; first = number - given old; asked = false })
+    × ((h : Past) → Sends h old → Sends (record h { entries = h.entries ++ entries }) new)
+Does finishes old new = (new ≡ record old { finished = true; asked = false }) × ((h : Past) → Sends h old → Sends h new)
+Does (feeds piece result) old new =
+    (new ≡ record old { reader = new.reader }) × OnOk result ((h : Past) → Sends h old → Sends (record h { fed = h.fed ++ piece }) new)
 Does (turns (Ok turn)) old new = TurnsWhole turn old new
 Does (turns (Err e)) old new = (new ≡ old) × Keeps new

@@ -257,3 +257,23 @@ write-requires-clause-earned g c =
     (may_end_unwritten (g.S.Outgoing.has_sent s) (g.S.Outgoing.has_sent t) (g.S.Outgoing.ends (g.S.Outgoing.settings t)) (g.S.Outgoing.standing t) c.in-Write.text c.turn.ensures.halts on
     (λ entries more fed o part rest also ending cut follow split some has. c.in-Ok.ensures.table.cuts entries more fed o part rest also ending cut follow (ap text_of c.in-Write.is ∙ split) some has))
     (subst (λ x. MayMark g.A.Access.ran c.args.access.now g.L.Object.same tells c.args.link.now (λ n. Leads (Stands (g.S.Outgoing.has_sent s) false c.args.total.now course) (λ start bytes calls text. IsAcknowledged (g.S.Outgoing.ends x) start course.end bytes calls text n)) g.A.Access.may_release) (sym c.turn.ensures.settings) c.requires.earned)
+
+pub supply-requires-clause-asked : goal.supply-requires-clause-asked
+supply-requires-clause-asked g c = c.in-Ok.ensures.stands.asked.1 c.in-Need.is
+
+pub supply-requires-clause-unfinished : goal.supply-requires-clause-unfinished
+supply-requires-clause-unfinished g c = c.in-Ok.ensures.stands.unfinished c.in-Need.is
+
+pub supply-requires-clause-agrees : goal.supply-requires-clause-agrees
+supply-requires-clause-agrees g c =
+    let s = g.S.Outgoing.standing c.args.sender.now in
+    let t = g.S.Outgoing.standing c.turn.new.self in
+    let untold = subst (λ (x : Turn). TellsFirst t.first x s.told t.told) c.in-Need.is c.in-Ok.ensures.stands.told in
+    agrees_turned s t c.args.course.now c.turn.ensures.stays.given untold c.turn.ensures.stays.first c.turn.ensures.stays.finished c.requires.agrees
+
+pub hear-requires-clause-agrees : goal.hear-requires-clause-agrees
+hear-requires-clause-agrees g c =
+    let s = g.S.Outgoing.standing c.args.sender.now in
+    let t = g.S.Outgoing.standing c.turn.new.self in
+    let untold = subst (λ (x : Turn). TellsFirst t.first x s.told t.told) c.in-Wait.is c.in-Ok.ensures.stands.told in
+    agrees_turned s t c.args.course.now c.turn.ensures.stays.given untold c.turn.ensures.stays.first c.turn.ensures.stays.finished c.requires.agrees

@@ -22,7 +22,7 @@ returns-in-End-clause-turns c =
     let s = c.args.self.now in
     turned_rest Done s tt (λ e. cc) c.requires.asked c.in-End.ensures (for_end s c.in-End.ensures)
 
-pub returns-clause-turns : goal.returns-clause-turns
-returns-clause-turns c =
+pub returns-in-Hear-clause-turns : goal.returns-in-Hear-clause-turns
+returns-in-Hear-clause-turns c =
     let e = c.unheard.ensures in
     turned_rest c.unheard.result c.args.self.now e.rests e.need c.requires.asked e.turn e.exactly

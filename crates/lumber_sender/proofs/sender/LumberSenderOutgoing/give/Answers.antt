@@ -28,5 +28,7 @@ pub returns-clause-own : goal.returns-clause-own
 returns-clause-own c =
     let s = sender_of c.self.inside in
     let more = c.args.entries.items in
-    let may : MayGive (standing_of s) c.args.number more = rw (← c.self.view_is) at c.requires.may in
-    subst (λ (x : Sender). gave s c.args.number more ≡ record x { batch = more; written = 0; first = c.args.number - given x; asked = false }) c.self.view_is (gave_does s c.args.number more c.self.invariant.0 may.asked)
+    let may : MayGive (standing_of s) c.args.number more = rw (← c.self.view_is) at c.requires.may in (
+      subst (λ (x : Sender). gave s c.args.number more ≡ record x { batch = more; written = 0; first = c.args.number - given x; asked = false }) c.self.view_is (gave_does s c.args.number more c.self.invariant.0 may.asked),
+      λ h g. sends_more s c.args.number more c.self.invariant.0 may h (rw (← c.self.view_is) at g),
+    )

@@ -28,4 +28,4 @@ pub returns-clause-halts : goal.returns-clause-halts
 returns-clause-halts c = halts_at c.next-turn.new.self c.settle.ensures
 
 pub returns-clause-own : goal.returns-clause-own
-returns-clause-own c = does_turn c.next-turn.result c.args.self.now c.next-turn.new.self c.settle.ensures c.next-turn.ensures.err c.next-turn.ensures.turns
+returns-clause-own c = does_turn c.next-turn.result c.args.self.now c.next-turn.new.self c.next-turn.ensures.kept c.settle.ensures c.next-turn.ensures.err c.next-turn.ensures.turns
