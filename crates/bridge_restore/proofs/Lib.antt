@@ -1,0 +1,4 @@
+mod Joining
+mod Parts
+mod Slots
+mod Ending
