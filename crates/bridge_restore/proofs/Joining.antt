@@ -1,6 +1,6 @@
 -- Entries stored after others.
-use Rattle.std.proofs.Common.{◌≡◌, inl, inr, ℕ, ◌+◌, ◌≤◌, List, [], ◌∷◌, ◌++◌, length, refl, sym, ◌∙◌, ap, subst, append_assoc}
-use Rattle.std.specs.Prelude.{Ok, Err}
+use Rattle.std.proofs.Common.{◌≡◌, inl, inr, ℕ, suc, ◌+◌, ◌≤◌, List, [], ◌∷◌, ◌++◌, length, refl, sym, ◌∙◌, ap, arith, append_assoc}
+use Rattle.std.specs.Prelude.{Ok, Err, All}
 use Rattle.std.proofs.lemmas.List.{map-append}
 use Rattle.event_form.specs.declared.event.Entry.{Entry}
 use Rattle.edge_disk.specs.Disk.{Moment, IsLawful, LeavesOnly}
@@ -9,6 +9,8 @@ use Rattle.spool_state.specs.SpoolState.{SpoolState, base}
 use Rattle.spool_state.specs.Left.{numbered}
 use Rattle.spool_state.proofs.Unknown.{numbered_append}
 use Rattle.spool_faults.specs.declared.fault.TakeFault.{TakeFault}
+use Rattle.spool_slots.specs.declared.fault.ScanFault.{ScanFault}
+use Rattle.spool_slots.specs.Fault.{IsNotBroken}
 use Rattle.spool_log.specs.State.{View, IsIn}
 use Rattle.spool_move.specs.Moved.{moved, all_moved}
 use Rattle.spool_move.specs.Stands.{HasTaken}
@@ -127,4 +129,29 @@ one_refused t e old new fault held o = record {
   taken = taken_none t held.sound.from_base;
   stops = (e, [], refl, o.taken.0, o.taken.1);
   any_moment = taking t e old.moment new.moment o.any_moment;
+}
+
+-- ---- one of the entries
+
+pub item_at : (P : Entry → Type 0) (xs : List Entry) (e : Entry) (rest : List Entry) → All P (xs ++ e ∷ rest) → P e
+item_at P [] e rest all = all 0 e (omega arith)
+item_at P (x ∷ xs) e rest all = item_at P xs e rest (λ i d lt. all (suc i) d (omega (arith, lt)))
+
+-- the next one is told too
+pub told_push : (tag first number : ℕ) (xs : List Entry) (e : Entry) → number ≡ first + length xs
+    → told_from tag first (xs ++ e ∷ []) ≡ told_from tag first xs ++ moved tag (record { number = number; entry = e }) ∷ []
+told_push tag first number xs e is =
+    told_append tag first xs (e ∷ []) ∙ ap (λ (n : ℕ). told_from tag first xs ++ told_from tag n (e ∷ [])) (sym is)
+
+-- nothing was read, and so nothing stored
+pub unread_first : (t : SpoolState) (entries : List Entry) (old : View) (fault : ScanFault) → IsIn t [] old → IsLawful old.moment → IsNotBroken fault
+    → StopsStoring t entries (Unread fault) old old
+unread_first t entries old fault held lawful is = record {
+  front = [];
+  rest = entries;
+  t = t;
+  parts = refl;
+  taken = taken_none t held.sound.from_base;
+  stops = (is, held);
+  any_moment = started (IsStoring t entries) old.moment lawful (λ d image. (t, held.each d image, front_none t entries held.sound.from_base));
 }

@@ -2,3 +2,4 @@ mod Joining
 mod Parts
 mod Slots
 mod Ending
+mod Seeing
