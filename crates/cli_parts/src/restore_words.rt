@@ -1,5 +1,8 @@
 //! The words `rescue` with `--into TARGET --tag TAG`, which are no command of `bridge` itself: the program reads them, and makes another call
 //! for them.
+ghost use Rattle.std.specs.Prelude.{IfSome, map, string_bytes};
+ghost use Rattle.cli_parts.specs.RestoreWords.{IsRestore};
+
 use crate::digits::number;
 use bridge_rescue::Layout;
 
@@ -130,7 +133,9 @@ fn tag_in(word: &str) -> Option<u32> {
 
 /// What these words rescue into, where they are `rescue` with `--into TARGET` and `--tag TAG`, each once, in any order and with `=` or without,
 /// and with SLOTS and SIZE or without.
-pub fn restore_of(words: &[String]) -> Option<RestoreWords<'_>> {
+pub fn restore_of(words: &[String]) -> Option<RestoreWords<'_>>
+    ensures { IfSome result (λ restore. IsRestore restore (map string_bytes words.now)) }
+{
     let [name, rest @ ..] = words else {
         return None;
     };
