@@ -1,6 +1,6 @@
 -- How storing ends.
 use Rattle.std.proofs.Common.{◌≡◌, ◌⊎◌, inl, inr, ℕ, ◌-◌, List, [], ◌++◌, length, refl, sym, ap, arith}
-use Rattle.std.specs.Prelude.{Bool, Result, Ok, Err, IfErr}
+use Rattle.std.specs.Prelude.{Bool, Some, Result, Ok, Err, IfErr, IfSome}
 use Rattle.std.proofs.lemmas.List.{append-nil}
 use Rattle.event_form.specs.declared.event.Entry.{Entry}
 use Rattle.edge_disk.specs.Calls.{Calls}
@@ -24,7 +24,7 @@ use Rattle.spool_log.specs.State.{View, view, IsIn}
 use Rattle.notes.specs.declared.note.Note.TheVariants.{DiskFault}
 use Rattle.bridge_parts.specs.Refused.{note_of_pend, note_of_recover}
 use Rattle.bridge_rescue.specs.Looking.{note_of_scan}
-use Rattle.bridge_restore.specs.Fault.{note_of_take, note_of_store}
+use Rattle.bridge_restore.specs.Fault.{note_of_take, note_of_store, why_of}
 use Rattle.spool_move.specs.Stands.{HasTaken}
 use Rattle.spool_move.specs.Walking.{AfterRefusal}
 use Rattle.spool_move.proofs.Growing.{taken_none}
@@ -33,7 +33,7 @@ use Rattle.bridge_parts.specs.Run.{DiskRun}
 use Rattle.bridge_restore.specs.declared.fault.StoreFault.{StoreFault}
 use Rattle.bridge_restore.specs.declared.fault.StoreFault.TheVariants.{Strange, Unseen, Unread, Untaken}
 use Rattle.bridge_restore.specs.Fresh.{IsFresh, FindsTagged}
-use Rattle.bridge_restore.specs.Into.{StoresSeen, Counts, EndsAs, StoresFrom, TellsTwo, IsDiskFault, IsStoreNote}
+use Rattle.bridge_restore.specs.Into.{StoresSeen, Counts, EndsAs, StoresFrom, TellsTwo, FailsDisk, IsDiskFault, IsStoreNote}
 use Rattle.bridge_restore.specs.Storing.{HasFront, HasStored, StopsStoring, StopsAt, Stores, IsStoring, IsOfStoring}
 use Rattle.bridge_restore.proofs.Joining.{stored_then, stops_then, storing_more}
 
@@ -214,3 +214,15 @@ closed_images fault old new only = weaker _ old.image old new only (same fault) 
   same (Recover.Worn ordinal) c h = h
   same Recover.DiskFault c h = h
   same Recover.NoMemory c h = h
+
+pub whys_known : (ended : Result (Unit {0}) StoreFault) → IfSome (why_of ended) IsStoreNote
+whys_known (Ok done) = tt
+whys_known (Err fault) = why_known fault
+
+pub fails_why : (ended : Result (Unit {0}) StoreFault) → FailsDisk ended → why_of ended ≡ Some DiskFault
+fails_why (Ok done) fails = absurd fails
+fails_why (Err fault) fails = ap Some (why_disk fault fails)
+
+pub why_fails : (ended : Result (Unit {0}) StoreFault) → why_of ended ≡ Some DiskFault → FailsDisk ended
+why_fails (Ok done) is = absurd (cc)
+why_fails (Err fault) is = let same : note_of_store fault ≡ DiskFault = cc in why_failed fault same

@@ -1,4 +1,5 @@
 -- Why entries were not all stored, as notes.
+use Rattle.std.specs.Prelude.{Option, None, Some, Result, Ok, Err}
 use Rattle.spool_faults.specs.declared.fault.TakeFault.{TakeFault}
 use Rattle.spool_faults.specs.declared.fault.TakeFault.TheVariants as Take
 use Rattle.notes.specs.declared.note.Note.{Note}
@@ -23,3 +24,8 @@ note_of_store (Strange number) = Note.Strange number
 note_of_store (Unseen fault) = note_of_pend fault
 note_of_store (Unread fault) = note_of_scan fault
 note_of_store (Untaken fault) = note_of_take fault
+
+-- the note that says why not all were stored, where they weren't
+abbrev pub why_of : Result Unit StoreFault → Option Note
+why_of (Ok done) = None
+why_of (Err fault) = Some (note_of_store fault)

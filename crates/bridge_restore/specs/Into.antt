@@ -1,5 +1,5 @@
 -- Another spool, opened, and entries stored into it.
-use Rattle.std.specs.Prelude.{◌≡◌, ◌⊎◌, ℕ, Bool, List, [], ◌++◌, length, Option, None, Some, Result, Ok, Err, MatchResult, IsErrOf}
+use Rattle.std.specs.Prelude.{◌≡◌, ◌⊎◌, ℕ, Bool, List, [], ◌++◌, length, Option, Some, Result, Ok, Err}
 use Rattle.event_form.specs.declared.event.Entry.{Entry}
 use Rattle.edge_disk.specs.Calls.{Calls}
 use Rattle.edge_disk.specs.declared.disk.Disk.{Ghosts as Disks}
@@ -23,7 +23,7 @@ use Rattle.bridge_parts.specs.Refused.{note_of_recover}
 use Rattle.bridge_parts.specs.Run.{DiskRun}
 use Rattle.bridge_restore.specs.declared.fault.StoreFault.{StoreFault}
 use Rattle.bridge_restore.specs.declared.fault.StoreFault.TheVariants as Store
-use Rattle.bridge_restore.specs.Fault.{note_of_store}
+use Rattle.bridge_restore.specs.Fault.{why_of}
 use Rattle.bridge_restore.specs.Fresh.{IsFresh, FindsTagged}
 use Rattle.bridge_restore.specs.Storing.{HasStored, StopsStoring, StopsAt, IsStoring}
 use Rattle.bridge_restore.specs.Told.{told}
@@ -63,11 +63,6 @@ Counts count u entries (Err (Store.Strange number)) old new tag did = count ≡ 
 Counts count u entries (Err (Store.Unseen fault)) old new tag did = count ≡ 0
 Counts count u entries (Err (Store.Unread fault)) old new tag did = count ≡ length did.1.front
 Counts count u entries (Err (Store.Untaken fault)) old new tag did = count ≡ length did.1.front
-
--- the note that says why not all were
-abbrev pub why_of : Result Unit StoreFault → Option Note
-why_of (Ok done) = None
-why_of (Err fault) = Some (note_of_store fault)
 
 -- Entries that were found of these slots were stored into a spool that was open, not in doubt.
 pub record StoresOpen {E : Type 0} {disks : Disks E} (tag : ℕ) (found : List OpenSlot) (target : Spool E disks) (after : E) (why : Option Note)

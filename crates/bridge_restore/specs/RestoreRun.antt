@@ -7,6 +7,8 @@ use Rattle.notes.specs.declared.note.Note.{Note}
 use Rattle.notes.specs.declared.note.Note.TheVariants.{Fine, NoMemory, DiskFault}
 use Rattle.bridge_parts.specs.Run.{DiskRun, IsUnused}
 use Rattle.bridge_rescue.specs.declared.layout.Layout.{Layout}
+use Rattle.bridge_rescue.specs.declared.fault.SlotFault.{SlotFault}
+use Rattle.bridge_rescue.specs.declared.gaps.Span.{Span}
 use Rattle.bridge_rescue.specs.declared.rescued.Report.{Report}
 use Rattle.bridge_rescue.specs.Faults.{HasUnread, IsVerdict, broken_in}
 use Rattle.bridge_rescue.specs.Gaps.{gaps_in, spans_in}
@@ -35,6 +37,11 @@ TellsBoth report note disk target =
 abbrev pub EndsBy : Report → Option Note → ℕ → Note → Type 0
 EndsBy report None stored note = (report.printed ≡ Some stored) × IsVerdict report.faults.items report.gaps.items note
 EndsBy report (Some why) stored note = (report.printed ≡ None) × (note ≡ why)
+
+-- so the note is, and so many entries were found where all of them were stored
+abbrev pub EndsWith : Option Note → ℕ → List SlotFault → List Span → Note × Option ℕ → Type 0
+EndsWith None count faults gaps ended = IsVerdict faults gaps ended.0 × (ended.1 ≡ Some count)
+EndsWith (Some why) count faults gaps ended = (ended.0 ≡ why) × (ended.1 ≡ None)
 
 -- The slots of the device were looked at, and so the entries of the sound ones were stored into the other spool, and those of the groups
 -- before the fault of each one that is broken, in order of their numbers. The report says how many are sound, and what is missing between

@@ -1,6 +1,6 @@
 //! Why entries that were found were not all stored.
 ghost use Rattle.std.specs.Prelude.{◌≡◌};
-ghost use Rattle.bridge_restore.specs.Fault.{note_of_take, note_of_store};
+ghost use Rattle.bridge_restore.specs.Fault.{note_of_take, note_of_store, why_of};
 
 use bridge_parts::pend_note;
 use bridge_rescue::note_of_scan;
@@ -34,8 +34,8 @@ fn take_note(fault: TakeFault) -> Note
     }
 }
 
-/// The note that says why. Of a disk that failed it is `DiskFault`, whichever of the two that was.
-pub(crate) fn store_note(fault: StoreFault) -> Note
+// The note that says why. Of a disk that failed it is `DiskFault`, whichever of the two that was.
+fn store_note(fault: StoreFault) -> Note
     ensures { result ≡ note_of_store fault }
 {
     match fault {
@@ -43,5 +43,16 @@ pub(crate) fn store_note(fault: StoreFault) -> Note
         StoreFault::Unseen(fault) => pend_note(fault),
         StoreFault::Unread(fault) => note_of_scan(fault),
         StoreFault::Untaken(fault) => take_note(fault),
+    }
+}
+
+/// The note that says why not all entries were stored, where they weren't. Of a disk that failed it is `DiskFault`, whichever of the two that
+/// was.
+pub(crate) fn why_note(ended: Result<(), StoreFault>) -> Option<Note>
+    ensures { result ≡ why_of ended }
+{
+    match ended {
+        Ok(()) => None,
+        Err(fault) => Some(store_note(fault)),
     }
 }

@@ -10,7 +10,7 @@ ghost use Rattle.bridge_rescue.specs.Looking.{AreReadable, AreKnown};
 ghost use Rattle.bridge_restore.specs.Into.{TellsTwo, FailsDisk, StoresOpen, StoresSeen, GoesInto, IsStoreNote};
 ghost use Rattle.bridge_restore.specs.Told.{told};
 
-use crate::fault::{StoreFault, store_note};
+use crate::fault::{StoreFault, why_note};
 use crate::fresh::see_fresh;
 use crate::storing::store_slots;
 use bridge_parts::recover_note;
@@ -72,12 +72,9 @@ fn store_open<D: Disk, E: Disk>(
         → StoresOpen tag slots target result.target result.why result.count }
 {
     let begin = target.end();
-    let result = store_seen(alloc, disk, window, founds, tag, &mut target);
+    let ended = store_seen(alloc, disk, window, founds, tag, &mut target);
     let count = target.end().saturating_sub(begin);
-    let why = match result {
-        Ok(()) => None,
-        Err(fault) => Some(store_note(fault)),
-    };
+    let why = why_note(ended);
     let target = target.into_disk();
     Stored { why, count, target }
 }

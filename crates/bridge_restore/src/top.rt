@@ -3,14 +3,31 @@ ghost use Rattle.std.specs.Prelude.{◌≡◌};
 ghost use Rattle.spool_answers.specs.Leave.{LetsKeep};
 ghost use Rattle.notes.specs.Notes.{status_of};
 ghost use Rattle.bridge_parts.specs.Run.{disk_run};
-ghost use Rattle.bridge_restore.specs.RestoreRun.{IsRestoreRun, RestoresRun};
+ghost use Rattle.bridge_restore.specs.RestoreRun.{EndsWith, IsRestoreRun, RestoresRun};
 
 use crate::into::{Stored, store_into};
 use crate::restored::Restored;
-use bridge_rescue::{Layout, Looked, Report, find_gaps, layout_of, look_at_all, reserve, verdict};
+use bridge_rescue::{
+    Layout, Looked, Report, SlotFault, Span, find_gaps, layout_of, look_at_all, reserve, verdict,
+};
 use edge_disk::Disk;
 use notes::Note;
 use std::alloc::Global;
+
+// The note of a rescue, and how many entries were found where all of them were stored: these, unless it is said why not all were.
+fn ending_of(
+    why: Option<Note>,
+    count: u64,
+    faults: &[SlotFault],
+    gaps: &[Span],
+) -> (Note, Option<u64>)
+    ensures { EndsWith why count faults.now gaps.now result }
+{
+    match why {
+        None => (verdict(faults, gaps), Some(count)),
+        Some(note) => (note, None),
+    }
+}
 
 // Looks at the slots of a device of this layout, and stores the entries that were found into the spool of the other disk.
 fn restore_slots<D: Disk, E: Disk>(
@@ -38,10 +55,7 @@ fn restore_slots<D: Disk, E: Disk>(
     find_gaps(&found, &mut gaps);
     let Stored { why, count, target } =
         store_into(alloc, &mut disk, &mut window, &found, tag, target);
-    let (note, printed) = match why {
-        None => (verdict(&faults, &gaps), Some(count)),
-        Some(note) => (note, None),
-    };
+    let (note, printed) = ending_of(why, count, &faults, &gaps);
     let report = Report {
         slots: layout.slots,
         sound,
