@@ -3,3 +3,4 @@ mod Parts
 mod Slots
 mod Ending
 mod Seeing
+mod Finishing
