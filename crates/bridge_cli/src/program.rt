@@ -6,8 +6,8 @@ use cli_files::{SystemFiles, run_rescue, run_restore, run_skip};
 use cli_parts::{
     Arguments, Ending, Host, NoArguments, RunOptions, Shown, StandardError, Taken, Told, Untaken,
     answer, confirm, hold_streams, keep_freed, print_beside_usage, print_beside_wrong_option,
-    print_ending, print_error, print_note, print_start, rescue_of, restore_of, skip_of, take_options,
-    version_day, with_bytes, with_tokens,
+    print_ending, print_error, print_note, print_start, rescue_of, restore_of, skip_of,
+    take_options, version_day, with_bytes, with_tokens,
 };
 use edge_io::FileIo;
 use edge_net::{Manager, Reports, TcpNet, Waits};

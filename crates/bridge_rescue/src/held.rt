@@ -37,12 +37,7 @@ fn read_front<D: Disk>(disk: &mut D, at: u64, bytes: &mut [u8], n: usize) -> Res
 impl Held {
     /// The `n` bytes from offset `at` of the device on. The error says that no memory was found for them, or that a call of the disk
     /// failed.
-    pub fn read<D: Disk>(
-        alloc: Global,
-        disk: &mut D,
-        at: u64,
-        n: u64,
-    ) -> Result<Held, ScanFault>
+    pub fn read<D: Disk>(alloc: Global, disk: &mut D, at: u64, n: u64) -> Result<Held, ScanFault>
         requires place { at + n ≤ (D.moment disk.old).size }
         requires small { n + 1 ≤ most_size }
 

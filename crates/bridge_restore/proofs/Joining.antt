@@ -112,10 +112,14 @@ stops_more u xs ys fault old new k = record {
 taking : (t : SpoolState) (e : Entry) (old new : Moment) → LeavesOnly (IsTaking t (e ∷ [])) old new → LeavesOnly (IsStoring t (e ∷ [])) old new
 taking t e old new one =
     weaker (IsTaking t (e ∷ [])) (IsStoring t (e ∷ [])) old new one
-    (λ c s. (s.0, s.1, elim s.2 [
-      | inl none ↦ record { front = []; rest = e ∷ []; parts = refl; taken = none }
-      | inr some ↦ record { front = e ∷ []; rest = []; parts = refl; taken = some }
-    ]))
+    (λ c s. (
+      s.0,
+      s.1,
+      elim s.2 [
+        | inl none ↦ record { front = []; rest = e ∷ []; parts = refl; taken = none }
+        | inr some ↦ record { front = e ∷ []; rest = []; parts = refl; taken = some }
+      ],
+    ))
 
 pub one_stored : (t : SpoolState) (e : Entry) (old new : View) → TakesOne t e (Ok tt) old new → HasStored t (e ∷ []) old new
 one_stored t e old new o = record { t = o.taken.0; reached = o.taken.1; taken = o.taken.2; any_moment = taking t e old.moment new.moment o.any_moment }

@@ -53,8 +53,14 @@ fn restore_slots<D: Disk, E: Disk>(
         sound,
     } = looked;
     find_gaps(&found, &mut gaps);
-    let Stored { why, count, target } =
-        store_into(alloc, &mut disk, &mut window, &found, tag, target);
+    let Stored { why, count, target } = store_into(
+        alloc,
+        &mut disk,
+        &mut window,
+        &found,
+        tag,
+        target,
+    );
     let (note, printed) = ending_of(why, count, &faults, &gaps);
     let report = Report {
         slots: layout.slots,
