@@ -96,8 +96,10 @@ fn stops(rt: &impl Abort, alloc: Global, of_source: u64, of_target: u64) -> bool
         assert!(rt; cut.disk.bytes() == from.as_slice());
         let left = cut.target.crash(*choice);
         let stored = cut.stored as usize;
-        assert!(rt; has_front(rt, alloc, left.bytes(), stored)
-            || (was_stopped && has_front(rt, alloc, left.bytes(), stored.saturating_add(1))));
+        assert!(rt;
+            has_front(rt, alloc, left.bytes(), stored)
+                || (was_stopped && has_front(rt, alloc, left.bytes(), stored.saturating_add(1)))
+        );
     }
     was_stopped
 }
@@ -141,7 +143,10 @@ pub(crate) fn each_call_fails(rt: &impl Abort, alloc: Global) {
         assert!(rt; failed.status == 73, "{call}");
         let left = failed.target.crash(Crash::Written);
         let stored = failed.stored as usize;
-        assert!(rt; has_front(rt, alloc, left.bytes(), stored) || has_front(rt, alloc, left.bytes(), stored.saturating_add(1)));
+        assert!(rt;
+            has_front(rt, alloc, left.bytes(), stored)
+                || has_front(rt, alloc, left.bytes(), stored.saturating_add(1))
+        );
     }
     assert!(rt; failures > 15 && failures < 199);
 }
