@@ -1,5 +1,5 @@
 -- A target that takes the entries that were found.
-use Rattle.std.specs.Prelude.{◌≡◌, List, [], ◌∷◌, ◌++◌, Result, Err, MatchResult}
+use Rattle.std.specs.Prelude.{◌≡◌, ℕ, List, [], ◌∷◌, ◌++◌, Result, Err, MatchResult}
 use Rattle.event_form.specs.declared.event.Entry.{Entry}
 use Rattle.edge_disk.specs.Disk.{LeavesOnly}
 use Rattle.spool_state.specs.SpoolState.{SpoolState}

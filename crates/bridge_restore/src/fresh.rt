@@ -1,5 +1,5 @@
 //! Whether a tag is fresh in a spool: whether none of its pending entries has it.
-ghost use Rattle.std.specs.Prelude.{◌≡◌, ◌≢◌, All, IfSome, MatchOption, MatchResult, IfErr, IsErrOf};
+ghost use Rattle.std.specs.Prelude.{[], MatchOption, MatchResult, IfErr, IsErrOf};
 ghost use Rattle.edge_disk.specs.Calls.{Calls};
 ghost use Rattle.edge_disk.specs.Disk.{LeavesOnly};
 ghost use Rattle.spool_state.specs.SpoolState.{SpoolState};

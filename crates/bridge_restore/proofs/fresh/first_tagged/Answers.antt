@@ -24,11 +24,11 @@ loop-one-preserved c =
     given_more page i one c.loop-one-test.true ∙ ap (λ (x : Numbered). given_entries (take i page) ++ as_entry x ∷ []) (sym c.one-item.is) in
     record {
       none_before = subst (λ (l : List NumberedEntry). IsFresh c.args.tag l) (sym more)
-          (fresh_push c.args.tag (given_entries (take i page)) (as_entry one) c.loop-one.invariant.none_before (λ is. c.if-eq.false (is ∙ sym c.connection-own.ensures)));
+          (fresh_push c.args.tag (given_entries (take i page)) (as_entry one) c.loop-one.invariant.none_before (λ is. c.if-one-own.false (is ∙ sym c.connection-own.ensures)));
     }
 
-pub returns-then-eq : goal.returns-then-eq
-returns-then-eq c =
+pub returns-then-one-own : goal.returns-then-one-own
+returns-then-one-own c =
     let page = c.args.page.now in
     let i = c.loop-one.one-index in
     let one = c.one-item.result in
@@ -42,7 +42,7 @@ returns-then-eq c =
           (given_more page i one c.loop-one-test.true ∙ ap (λ (x : Numbered). given_entries (take i page) ++ as_entry x ∷ []) (sym c.one-item.is))
           ∙ append_assoc (given_entries (take i page)) (as_entry one ∷ []) (given_entries (drop (i + 1) page));
       none_before = c.loop-one.invariant.none_before;
-      conn = c.if-eq.true ∙ c.connection-own.ensures;
+      conn = c.if-one-own.true ∙ c.connection-own.ensures;
       number_is = refl;
     }
 

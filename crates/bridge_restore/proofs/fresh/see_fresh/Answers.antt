@@ -52,9 +52,9 @@ returns-in-Some-clause-kept g c = λ u tells held.
 pub overflow_add-from : goal.overflow_add-from
 overflow_add-from g c =
     let given = c.in-Ok.page.items in
-    let one = c.in-Some-in-loop-page.last.now in
-    let place = subst (λ (l : List Numbered). one ≡ get_or l (length l - 1) one) c.deref-in-loop-page.ensures.value c.in-Some-in-loop-page.ensures.item.1 in
-    let some = subst (λ (l : List Numbered). 0 < length l) c.deref-in-loop-page.ensures.value c.in-Some-in-loop-page.ensures.item.3.0 in
+    let one = c.in-Some-last.last.now in
+    let place = subst (λ (l : List Numbered). one ≡ get_or l (length l - 1) one) c.deref-in-loop-page.ensures.value c.in-Some-last.ensures.item.1 in
+    let some = subst (λ (l : List Numbered). 0 < length l) c.deref-in-loop-page.ensures.value c.in-Some-last.ensures.item.3.0 in
     let last = last_given c.loop-page.from _ given one c.in-Ok.ensures.numbered some place in
     omega (arith, last.below)
 
@@ -78,9 +78,9 @@ returns-in-None-clause-kept g c = λ u tells held.
 pub loop-page-smaller : goal.loop-page-smaller
 loop-page-smaller g c =
     let given = c.in-Ok.page.items in
-    let one = c.in-Some-in-loop-page.last.now in
-    let place = subst (λ (l : List Numbered). one ≡ get_or l (length l - 1) one) c.deref-in-loop-page.ensures.value c.in-Some-in-loop-page.ensures.item.1 in
-    let some = subst (λ (l : List Numbered). 0 < length l) c.deref-in-loop-page.ensures.value c.in-Some-in-loop-page.ensures.item.3.0 in
+    let one = c.in-Some-last.last.now in
+    let place = subst (λ (l : List Numbered). one ≡ get_or l (length l - 1) one) c.deref-in-loop-page.ensures.value c.in-Some-last.ensures.item.1 in
+    let some = subst (λ (l : List Numbered). 0 < length l) c.deref-in-loop-page.ensures.value c.in-Some-last.ensures.item.3.0 in
     let last = last_given c.loop-page.from _ given one c.in-Ok.ensures.numbered some place in
     omega (arith, last.above, last.below)
 
@@ -88,9 +88,9 @@ pub loop-page-preserved : goal.loop-page-preserved
 loop-page-preserved g c =
     let inv = c.loop-page.invariant in
     let given = c.in-Ok.page.items in
-    let one = c.in-Some-in-loop-page.last.now in
-    let place = subst (λ (l : List Numbered). one ≡ get_or l (length l - 1) one) c.deref-in-loop-page.ensures.value c.in-Some-in-loop-page.ensures.item.1 in
-    let some = subst (λ (l : List Numbered). 0 < length l) c.deref-in-loop-page.ensures.value c.in-Some-in-loop-page.ensures.item.3.0 in
+    let one = c.in-Some-last.last.now in
+    let place = subst (λ (l : List Numbered). one ≡ get_or l (length l - 1) one) c.deref-in-loop-page.ensures.value c.in-Some-last.ensures.item.1 in
+    let some = subst (λ (l : List Numbered). 0 < length l) c.deref-in-loop-page.ensures.value c.in-Some-last.ensures.item.3.0 in
     let last = last_given c.loop-page.from _ given one c.in-Ok.ensures.numbered some place in
     record {
       within = omega (arith, last.below);

@@ -25,10 +25,10 @@ loop-entry-init g c = record {
   stored = λ t tells held. stored_none t _ held (g.met.E.Disk.lawful c.args.target.now.disk tells);
 }
 
-pub take_one-requires-clause-limits : goal.take_one-requires-clause-limits
-take_one-requires-clause-limits g c =
+pub take_one-requires : goal.take_one-requires
+take_one-requires g c =
     let parts = c.loop-entry.invariant.parts ∙ ap (λ (l : List Entry). c.loop-entry.yielded ++ l) c.in-Some.ensures.steps.0 in
-    item_at IsEntry c.loop-entry.yielded c.in-Some.entry (into_iter_items c.next.new.self) (subst (All IsEntry) parts c.requires.limits)
+    record { limits = item_at IsEntry c.loop-entry.yielded c.in-Some.entry (into_iter_items c.next.new.self) (subst (All IsEntry) parts c.requires.limits) }
 
 pub overflow_add-number : goal.overflow_add-number
 overflow_add-number g c =
