@@ -4,6 +4,7 @@ pub mod Near
 pub mod Opening
 pub mod Piece
 pub mod RescueWords
+pub mod RestoreWords
 pub mod RunOptions
 pub mod Sizes
 pub mod SkipWords
