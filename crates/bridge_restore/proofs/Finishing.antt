@@ -3,7 +3,7 @@ use Rattle.std.proofs.Common.{◌≡◌, ◌⊎◌, inl, inr, ℕ, ◌+◌, List
 use Rattle.std.specs.Prelude.{Option, None, Some, IfSome}
 use Rattle.edge_disk.specs.Calls.{Calls}
 use Rattle.edge_disk.specs.Disk.{Moment}
-use Rattle.edge_disk.proofs.Calls.{calls_as, calls_then}
+use Rattle.edge_disk.proofs.Calls.{calls_as, calls_on, calls_then}
 use Rattle.spool_state.specs.SpoolState.{OpenSlot}
 use Rattle.notes.specs.declared.note.Note.{Note}
 use Rattle.notes.specs.declared.note.Note.TheVariants.{Fine, NotSpool, DiskFault}
@@ -73,6 +73,13 @@ module _ (faults : List SlotFault) (gaps : List Span) (count : ℕ) (old mid new
     calls_then (HasUnread faults) ⊥ (HasUnread faults) old mid new looked of.0 (λ has. inl has) (λ none. (none, λ e. e)),
     calls_as (Some note ≡ Some DiskFault) (ended.0 ≡ DiskFault) onto onto' of.1 (λ by. ap Some (sym is.0 ∙ by)) (λ e. let same : note ≡ DiskFault = cc in is.0 ∙ same),
   )
+
+-- the calls of the first disk before failed at nothing
+pub calls_later : (Failed Unread Noted : Type 0) (old mid new onto onto' : Moment) → Calls ⊥ old mid
+    → (Calls Failed mid new × Calls ⊥ onto onto') ⊎ (Calls Unread mid new × Calls Noted onto onto')
+    → (Calls Failed old new × Calls ⊥ onto onto') ⊎ (Calls Unread old new × Calls Noted onto onto')
+calls_later Failed Unread Noted old mid new onto onto' first (inl of) = inl (calls_on ⊥ Failed old mid new first (λ f. f) of.0, of.1)
+calls_later Failed Unread Noted old mid new onto onto' first (inr of) = inr (calls_on ⊥ Unread old mid new first (λ f. f) of.0, of.1)
 
 -- ---- what was found and stored
 
