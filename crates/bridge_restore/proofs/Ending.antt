@@ -1,18 +1,20 @@
 -- How storing ends.
 use Rattle.std.proofs.Common.{◌≡◌, ◌⊎◌, inl, inr, ℕ, ◌-◌, List, [], ◌++◌, length, refl, sym, ap, arith}
-use Rattle.std.specs.Prelude.{Bool, Some, Result, Ok, Err, IfErr, IfSome}
+use Rattle.std.specs.Prelude.{Bool, Some, Result, Ok, Err, IfErr, IfSome, IsErrOf}
 use Rattle.std.proofs.lemmas.List.{append-nil}
 use Rattle.event_form.specs.declared.event.Entry.{Entry}
 use Rattle.edge_disk.specs.Calls.{Calls}
 use Rattle.edge_disk.specs.Disk.{Moment, LeavesOnly}
-use Rattle.edge_disk.proofs.Calls.{calls_as, calls_on}
+use Rattle.edge_disk.proofs.Calls.{calls_none, calls_as, calls_on}
 use Rattle.edge_disk.proofs.Moments.{both, weaker}
 use Rattle.spool_state.specs.SpoolState.{SpoolState, end}
 use Rattle.spool_state.specs.Left.{left}
 use Rattle.spool_state.specs.Image.{StandsFor}
 use Rattle.spool_faults.specs.declared.fault.TakeFault.{TakeFault}
 use Rattle.spool_faults.specs.declared.fault.TakeFault.TheVariants as Take
+use Rattle.spool_faults.specs.declared.fault.PendFault.{PendFault}
 use Rattle.spool_faults.specs.declared.fault.PendFault.TheVariants as Pend
+use Rattle.spool_slots.specs.declared.fault.ScanFault.{ScanFault}
 use Rattle.spool_slots.specs.declared.fault.ScanFault.TheVariants as Scan
 use Rattle.spool_log.specs.declared.fault.RecoverFault.{RecoverFault}
 use Rattle.spool_log.specs.declared.fault.RecoverFault.TheVariants as Recover
@@ -32,7 +34,7 @@ use Rattle.bridge_parts.proofs.Numbers.{end_seen}
 use Rattle.bridge_parts.specs.Run.{DiskRun}
 use Rattle.bridge_restore.specs.declared.fault.StoreFault.{StoreFault}
 use Rattle.bridge_restore.specs.declared.fault.StoreFault.TheVariants.{Strange, Unseen, Unread, Untaken}
-use Rattle.bridge_restore.specs.Fresh.{IsFresh, FindsTagged}
+use Rattle.bridge_restore.specs.Fresh.{IsFresh, FindsTagged, IsOfSeeing}
 use Rattle.bridge_restore.specs.Into.{StoresSeen, Counts, EndsAs, StoresFrom, TellsTwo, FailsDisk, IsDiskFault, IsStoreNote}
 use Rattle.bridge_restore.specs.Storing.{HasFront, HasStored, StopsStoring, StopsAt, Stores, IsStoring, IsOfStoring}
 use Rattle.bridge_restore.proofs.Joining.{stored_then, stops_then, storing_more}
@@ -158,6 +160,35 @@ module _ (tag : ℕ) (u : SpoolState) (entries : List Entry) (target : DiskRun) 
 pub tells_later : (Failed : Type 0) (from from' onto mid onto' : Moment) → Calls ⊥ onto mid → TellsTwo Failed from from' mid onto' → TellsTwo Failed from from' onto onto'
 tells_later Failed from from' onto mid onto' first (inl of) = inl (of.0, calls_on ⊥ ⊥ onto mid onto' first (λ f. f) of.1)
 tells_later Failed from from' onto mid onto' first (inr of) = inr (of.0, calls_on ⊥ Failed onto mid onto' first (λ f. f) of.1)
+
+-- a call of the other failed, exactly where the tag wasn't looked for to the end
+pub seen_tells : (fault : StoreFault) (from onto onto' : Moment) → IsOfSeeing fault → Calls (IsErrOf {T = Unit {0}} (Err fault) (Unseen Pend.DiskFault)) onto onto'
+    → TellsTwo (IsDiskFault fault) from from onto onto'
+seen_tells (Strange number) from onto onto' is calls = inr (calls_none from, calls_as _ ⊥ onto onto' calls (λ f. absurd f) (λ e. absurd (cc)))
+seen_tells (Unseen fault) from onto onto' is calls = inr (
+  calls_none from,
+  calls_as _ (fault ≡ Pend.DiskFault) onto onto' calls (λ by. ap (λ (f : PendFault). Err (Unseen f)) by) (λ e. let same : fault ≡ Pend.DiskFault = cc in same),
+)
+seen_tells (Unread fault) from onto onto' is calls = absurd is
+seen_tells (Untaken fault) from onto onto' is calls = absurd is
+
+-- one of the first disk where an entry was not read again, and of the other where one was not taken
+pub stored_tells : (result : Result (Unit {0}) StoreFault) (from from' onto onto' : Moment) → IfErr result IsOfStoring → Calls (IsErrOf result (Unread Scan.DiskFault)) from from'
+    → Calls (IsErrOf result (Untaken Take.DiskFault)) onto onto' → TellsTwo (FailsDisk result) from from' onto onto'
+stored_tells (Ok done) from from' onto onto' known read taken = inl (
+  calls_as _ ⊥ from from' read (λ f. absurd f) (λ e. absurd (cc)),
+  calls_as _ ⊥ onto onto' taken (λ f. absurd f) (λ e. absurd (cc)),
+)
+stored_tells (Err (Strange number)) from from' onto onto' known read taken = absurd known
+stored_tells (Err (Unseen fault)) from from' onto onto' known read taken = absurd known
+stored_tells (Err (Unread fault)) from from' onto onto' known read taken = inl (
+  calls_as _ (fault ≡ Scan.DiskFault) from from' read (λ by. ap (λ (f : ScanFault). Err (Unread f)) by) (λ e. let same : fault ≡ Scan.DiskFault = cc in same),
+  calls_as _ ⊥ onto onto' taken (λ f. absurd f) (λ e. absurd (cc)),
+)
+stored_tells (Err (Untaken fault)) from from' onto onto' known read taken = inr (
+  calls_as _ ⊥ from from' read (λ f. absurd f) (λ e. absurd (cc)),
+  calls_as _ (fault ≡ Take.DiskFault) onto onto' taken (λ by. ap (λ (f : TakeFault). Err (Untaken f)) by) (λ e. let same : fault ≡ Take.DiskFault = cc in same),
+)
 
 -- a failure by another word
 pub tells_as : (Failed Same : Type 0) (from from' onto onto' : Moment) → (Failed → Same) → (Same → Failed) → TellsTwo Failed from from' onto onto' → TellsTwo Same from from' onto onto'

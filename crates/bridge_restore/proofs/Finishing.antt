@@ -83,15 +83,16 @@ calls_later Failed Unread Noted old mid new onto onto' first (inr of) = inr (cal
 
 -- ---- what was found and stored
 
-ends_by : (report : Report) (why : Option Note) (count : ℕ) (note : Note) → EndsWith why count report.faults.items report.gaps.items (note, report.printed) → EndsBy report why count note
-ends_by report None count note is = (is.1, is.0)
-ends_by report (Some why) count note is = (is.1, is.0)
+ends_by : (report : Report) (why : Option Note) (count : ℕ) (ended : Note × Option ℕ) → report.printed ≡ ended.1
+    → EndsWith why count report.faults.items report.gaps.items ended → EndsBy report why count ended.0
+ends_by report None count ended same is = (same ∙ is.1, is.0)
+ends_by report (Some why) count ended same is = (same ∙ is.1, is.0)
 
-pub restores_by : (given : Option Layout) (tag : ℕ) (layout : Layout) (c : List ℕ) (found : List OpenSlot) (items : List Found) (report : Report) (target : DiskRun) (why : Option Note) (count : ℕ) (note : Note)
+pub restores_by : (given : Option Layout) (tag : ℕ) (layout : Layout) (c : List ℕ) (found : List OpenSlot) (items : List Found) (report : Report) (target : DiskRun) (why : Option Note) (count : ℕ) (ended : Note × Option ℕ)
     → IsLayoutOf given c layout.slots layout.size → AreKnown found items c → AreJudged layout.slots layout.size c found report.faults.items → report.slots ≡ layout.slots
     → report.sound + broken_in report.faults.items ≡ length found → report.gaps.items ≡ gaps_in (spans_of items) → GoesInto tag found target why count
-    → EndsWith why count report.faults.items report.gaps.items (note, report.printed) → RestoresSlots given tag c report target count note
-restores_by given tag layout c found items report target why count note is known judged slots_are counted missing goes ended = record {
+    → report.printed ≡ ended.1 → EndsWith why count report.faults.items report.gaps.items ended → RestoresSlots given tag c report target count ended.0
+restores_by given tag layout c found items report target why count ended is known judged slots_are counted missing goes printed ends = record {
   size = layout.size;
   found = found;
   layout = subst (λ (n : ℕ). IsLayoutOf given c n layout.size) (sym slots_are) is;
@@ -100,5 +101,5 @@ restores_by given tag layout c found items report target why count note is known
   missing = missing ∙ ap gaps_in (same_spans found items c known);
   why = why;
   goes = goes;
-  ends = ends_by report why count note ended;
+  ends = ends_by report why count ended printed ends;
 }

@@ -25,8 +25,8 @@ loop-found-init g c = record {
 pub store_found-requires : goal.store_found-requires
 store_found-requires g c =
     let found = c.found-item.result in
-    let one = subst (λ (f : Found). IsReadableSlot (g.D.Disk.moment c.args.disk.now).size f.slot) (sym c.found-item.is) (c.requires c.loop-found.found-index found c.loop-found-test.true) in
-    subst (λ (n : ℕ). IsReadableSlot n found.slot) (sym c.loop-found.invariant.calls.size) one
+    let one = subst (λ (f : Found). IsReadableSlot (g.D.Disk.moment c.args.disk.now).size f.slot) (sym c.found-item.is) (c.requires.readable c.loop-found.found-index found c.loop-found-test.true) in
+    record { readable = subst (λ (n : ℕ). IsReadableSlot n found.slot) (sym c.loop-found.invariant.calls.size) one }
 
 pub loop-found-preserved : goal.loop-found-preserved
 loop-found-preserved g c =

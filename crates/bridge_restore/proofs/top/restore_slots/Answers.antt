@@ -47,6 +47,6 @@ returns-clause-run g c =
           let known = subst (λ (l : List Found). AreKnown knows.found l (g.D.Disk.moment c.look_at_all.new.disk).reads) (sym c.deref-2.ensures.value)
           (subst (AreKnown knows.found looked.found.items) (sym same) knows.known) in
           restores_by given c.args.tag c.args.layout reads knows.found looked.found.items _
-          (disk_run g.E.Disk.tells g.E.Disk.moment c.args.target c.store_into.result.target) why count ended.0 (is tells) knows.known knows.judged refl knows.counted
-          (c.find_gaps.ensures ∙ ap (λ (l : List Found). gaps_in (spans_of l)) c.deref.ensures.value) (did.stored knows.found tells known) ends;
+          (disk_run g.E.Disk.tells g.E.Disk.moment c.args.target c.store_into.result.target) why count ended (is tells) knows.known knows.judged refl knows.counted
+          (c.find_gaps.ensures ∙ ap (λ (l : List Found). gaps_in (spans_of l)) c.deref.ensures.value) (did.stored knows.found tells known) refl ends;
     })
