@@ -5,6 +5,7 @@ pub mod Opening
 pub mod Piece
 pub mod RescueWords
 pub mod RestoreWords
+pub mod RestoreParts
 pub mod RunOptions
 pub mod Sizes
 pub mod SkipWords

@@ -18,12 +18,12 @@ pub record IsPlace (word : Text) : Type 0 where
 -- What words say one after another: the words that are no option, TARGET and TAG, each of which stands once at most.
 pub data Says : List Text → List Text → Option Text → Option Text → Type 0 where
   nothing : Says [] [] None None
-  place : {words places : List Text} {target tag : Option Text} {word : Text} → Says words places target tag → IsPlace word
-      → Says (words ++ word ∷ []) (places ++ word ∷ []) target tag
-  target : {words places own : List Text} {tag : Option Text} {value : Text} → Says words places None tag → IsOption (codes "--into") own value
-      → Says (words ++ own) places (Some value) tag
-  tag : {words places own : List Text} {target : Option Text} {value : Text} → Says words places target None → IsOption (codes "--tag") own value
-      → Says (words ++ own) places target (Some value)
+  place : {words places : List Text} {to by : Option Text} {word : Text} → Says words places to by → IsPlace word
+      → Says (words ++ word ∷ []) (places ++ word ∷ []) to by
+  target : {words places own : List Text} {by : Option Text} {value : Text} → Says words places None by → IsOption (codes "--into") own value
+      → Says (words ++ own) places (Some value) by
+  tag : {words places own : List Text} {to : Option Text} {value : Text} → Says words places to None → IsOption (codes "--tag") own value
+      → Says (words ++ own) places to (Some value)
 
 -- SLOTS and SIZE with the numbers of this layout, or neither
 abbrev pub IsLayoutIn : Option Layout → List Text → Type 0
@@ -39,11 +39,11 @@ pub record IsTagWord (tag : ℕ) (word : Text) : Type 0 where
 pub record IsRestore (restore : RestoreWords) (words : List Text) : Type 0 where
   pub rest : List Text
   pub places : List Text
-  pub tag : Text
+  pub tag_word : Text
   pub named : words ≡ codes "rescue" ∷ rest
-  pub says : Says rest places (Some restore.target.now) (Some tag)
+  pub says : Says rest places (Some restore.target.now) (Some tag_word)
   pub layout : IsLayoutIn restore.layout places
-  pub tag_is : IsTagWord restore.tag tag
+  pub tag_is : IsTagWord restore.tag tag_word
 
 -- they aren't
 abbrev pub IsNoRestore : List Text → Type 0
