@@ -1,6 +1,6 @@
 -- How the words are read that rescue entries into another spool.
 use Rattle.std.proofs.Common.{◌≡◌, ◌∙◌, List, [], ◌∷◌, ◌++◌, inl, inr, refl, sym, ap, subst, append_assoc, codes}
-use Rattle.std.specs.Prelude.{◌≢◌, Option, None, Some}
+use Rattle.std.specs.Prelude.{◌≢◌, Option, None, Some, IfSome}
 use Rattle.std.proofs.lemmas.List.{append-nil}
 use Rattle.cli_parts.specs.declared.restore_words.Said.{Said}
 use Rattle.cli_parts.specs.declared.restore_words.RestoreWords.{RestoreWords}
@@ -99,3 +99,7 @@ restores_if words name rest said restore are is says asks = record {
   layout = asks.layout;
   tag_is = asks.tag_is;
 }
+
+pub some_as : {X : Type 0} (r : Option X) (P Q : X → Type 0) → ((x : X) → P x → Q x) → IfSome r P → IfSome r Q
+some_as None P Q goes is = tt
+some_as (Some x) P Q goes is = goes x is

@@ -208,9 +208,11 @@ fn layout_in(slots: Option<&str>, size: Option<&str>) -> Option<Option<Layout>>
 fn tag_in(word: &str) -> Option<u32>
     ensures { IfSome result (λ tag. IsTagWord tag word.now) }
 {
-    let number = number(word)?;
-    if number <= MOST_TAG {
-        Some(number as u32)
+    let Some(tag) = number(word) else {
+        return None;
+    };
+    if tag <= MOST_TAG {
+        Some(tag as u32)
     } else {
         None
     }
@@ -245,8 +247,10 @@ pub fn restore_of(words: &[String]) -> Option<RestoreWords<'_>>
         return None;
     };
     if name.as_str() == RESCUE {
-        let said = Said::of(rest)?;
-        asked_by(said)
+        match Said::of(rest) {
+            Some(said) => asked_by(said),
+            None => None,
+        }
     } else {
         None
     }

@@ -15,8 +15,8 @@ use Rattle.bridge_restore.proofs.top.restore_slots.Goals as goal
 pub find_gaps-requires-clause-readable : goal.find_gaps-requires-clause-readable
 find_gaps-requires-clause-readable g c = (_, subst (AreReadable _) (sym c.deref.ensures.value) c.look_at_all.ensures.readable)
 
-pub store_into-requires-clause-readable : goal.store_into-requires-clause-readable
-store_into-requires-clause-readable g c =
+pub store_into-why-requires-clause-readable : goal.store_into-why-requires-clause-readable
+store_into-why-requires-clause-readable g c =
     let looked = c.look_at_all.new.looked in
     let size = c.look_at_all.ensures.calls.size in
     subst (AreReadable (g.D.Disk.moment c.look_at_all.new.disk).size) (sym c.deref-2.ensures.value)
@@ -27,13 +27,13 @@ pub returns-clause-run : goal.returns-clause-run
 returns-clause-run g c =
     let looked = c.look_at_all.new.looked in
     let gaps = c.find_gaps.new.gaps in
-    let did = c.store_into.ensures in
-    let why = c.store_into.result.why in
-    let count = c.store_into.result.count in
-    let ended = c.ending_of.result in
+    let did = c.store_into-why.ensures in
+    let why = c.store_into-why.result.why in
+    let count = c.store_into-why.result.count in
+    let ended = c.ending_of-note.result in
     let ends : EndsWith why count looked.faults.items gaps.items ended =
     subst (λ (l : List SlotFault). EndsWith why count l gaps.items ended) c.deref-3.ensures.value
-    (subst (λ (l : List Span). EndsWith why count c.deref-3.result.now l ended) c.deref-4.ensures.value c.ending_of.ensures) in
+    (subst (λ (l : List Span). EndsWith why count c.deref-3.result.now l ended) c.deref-4.ensures.value c.ending_of-note.ensures) in
     rw (c.of.ensures.note, c.of.ensures.report, c.of.ensures.stored, c.of.ensures.disk, c.of.ensures.target)
     (λ given is. record {
       known = ends_known why count looked.faults.items gaps.items ended did.known ends;
@@ -47,6 +47,6 @@ returns-clause-run g c =
           let known = subst (λ (l : List Found). AreKnown knows.found l (g.D.Disk.moment c.look_at_all.new.disk).reads) (sym c.deref-2.ensures.value)
           (subst (AreKnown knows.found looked.found.items) (sym same) knows.known) in
           restores_by given c.args.tag c.args.layout reads knows.found looked.found.items _
-          (disk_run g.E.Disk.tells g.E.Disk.moment c.args.target c.store_into.result.target) why count ended (is tells) knows.known knows.judged refl knows.counted
+          (disk_run g.E.Disk.tells g.E.Disk.moment c.args.target c.store_into-why.result.target) why count ended (is tells) knows.known knows.judged refl knows.counted
           (c.find_gaps.ensures ∙ ap (λ (l : List Found). gaps_in (spans_of l)) c.deref.ensures.value) (did.stored knows.found tells known) refl ends;
     })
