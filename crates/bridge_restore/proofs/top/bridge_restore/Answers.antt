@@ -14,7 +14,7 @@ returns-in-Ok-clause-run g c =
     let first = c.in-Ok.ensures in
     let target = disk_run g.E.Disk.tells g.E.Disk.moment c.args.target c.restore_slots.result.target in
     let layout = λ (tells : g.D.Disk.tells).
-        subst (λ (l : List ℕ). IsLayoutOf c.args.given l c.in-Ok.layout.slots c.in-Ok.layout.size) (sym (first.told tells).same) (first.found tells) in
+    subst (λ (l : List ℕ). IsLayoutOf c.args.given l c.in-Ok.layout.slots c.in-Ok.layout.size) (sym (first.told tells).same) (first.found tells) in
     let did = c.restore_slots.ensures.run c.args.given layout in
     record {
       known = did.known;
