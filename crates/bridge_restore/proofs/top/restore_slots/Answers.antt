@@ -22,6 +22,18 @@ store_into-why-requires-clause-readable g c =
     subst (AreReadable (g.D.Disk.moment c.look_at_all.new.disk).size) (sym c.deref-2.ensures.value)
     (subst (λ (n : ℕ). AreReadable n looked.found.items) (sym size) c.look_at_all.ensures.readable)
 
+-- no memory was found for looking at them
+pub returns-in_default-clause-run : goal.returns-in_default-clause-run
+returns-in_default-clause-run g c =
+    rw (c.of.ensures.note, c.of.ensures.report, c.of.ensures.stored, c.of.ensures.disk, c.of.ensures.target)
+    (λ given is. record {
+      known = tt;
+      calls = inl (calls_as ⊥ _ _ _ (calls_none _) (λ by. absurd (cc)) (λ none. absurd none), calls_none _);
+      unchanged = λ tells. untouched_refl _;
+      alone = λ none. (record { same = refl; size = refl; faults = refl }, refl);
+      done = λ tells. inr refl;
+    })
+
 -- the slots were looked at
 pub returns-clause-run : goal.returns-clause-run
 returns-clause-run g c =
@@ -34,7 +46,7 @@ returns-clause-run g c =
     let ends : EndsWith why count looked.faults.items gaps.items ended =
     subst (λ (l : List SlotFault). EndsWith why count l gaps.items ended) c.deref-3.ensures.value
     (subst (λ (l : List Span). EndsWith why count c.deref-3.result.now l ended) c.deref-4.ensures.value c.ending_of-note.ensures) in
-    rw (c.of.ensures.note, c.of.ensures.report, c.of.ensures.stored, c.of.ensures.disk, c.of.ensures.target)
+    rw (c.of-in-Ok.ensures.note, c.of-in-Ok.ensures.report, c.of-in-Ok.ensures.stored, c.of-in-Ok.ensures.disk, c.of-in-Ok.ensures.target)
     (λ given is. record {
       known = ends_known why count looked.faults.items gaps.items ended did.known ends;
       calls = both_calls looked.faults.items gaps.items count _ _ _ _ _ c.look_at_all.ensures.calls why ended ends did.disks;
