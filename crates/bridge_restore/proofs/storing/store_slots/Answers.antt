@@ -18,7 +18,7 @@ pub loop-found-init : goal.loop-found-init
 loop-found-init g c = record {
   calls = calls_none _;
   target_calls = calls_none _;
-  told = λ tells. untouched_refl _;
+  untouched = λ tells. untouched_refl _;
   stored = λ slots t tells tells' known held. stored_none t _ held (g.met.E.Disk.lawful c.args.target.now.disk tells');
 }
 
@@ -40,10 +40,10 @@ loop-found-preserved g c =
     record {
       calls = calls_on ⊥ ⊥ _ _ _ inv.calls (λ f. f) (calls_as _ ⊥ _ _ call.calls (λ f. absurd f) (λ h. absurd (cc h)));
       target_calls = calls_on ⊥ ⊥ _ _ _ inv.target_calls (λ f. f) (calls_as _ ⊥ _ _ call.target_calls (λ f. absurd f) (λ h. absurd (cc h)));
-      told = λ tells. untouched_then _ _ _ (g.met.D.Disk.lawful c.args.disk.now tells) (inv.told tells) (call.told tells);
+      untouched = λ tells. untouched_then _ _ _ (g.met.D.Disk.lawful c.args.disk.now tells) (inv.untouched tells) (call.told tells);
       stored = λ slots t tells tells' known held.
           let before = inv.stored slots t tells tells' known held in
-          let here = subst (AreKnown slots c.args.founds.now) (sym (inv.told tells).same) known in
+          let here = subst (AreKnown slots c.args.founds.now) (sym (inv.untouched tells).same) known in
           let n = next_told c.args.tag slots c.args.founds.now _ i found here c.loop-found-test.true c.found-item.is in
           subst (λ (l : List Entry). HasStored t l old new) (sym n.more)
           (stored_then t (told c.args.tag (take i slots)) (told_of c.args.tag n.one.segment) old mid new before
@@ -60,7 +60,7 @@ returns-in_err-store_found-clause-stored g c = λ slots t tells tells' known hel
     let new = view c.store_found.new.target.memory c.store_found.new.target.doubt (g.E.Disk.moment c.store_found.new.target.disk) in
     let fault = c.in_err-store_found.field-0.0 in
     let before = inv.stored slots t tells tells' known held in
-    let here = subst (AreKnown slots c.args.founds.now) (sym (inv.told tells).same) known in
+    let here = subst (AreKnown slots c.args.founds.now) (sym (inv.untouched tells).same) known in
     let n = next_told c.args.tag slots c.args.founds.now _ i found here c.loop-found-test.true c.found-item.is in
     let first = told c.args.tag (take i slots) in
     let its = told_of c.args.tag n.one.segment in

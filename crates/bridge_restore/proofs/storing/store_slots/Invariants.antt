@@ -15,7 +15,7 @@ invariant-loop-found g l =
     record {
       calls : Calls ⊥ (moment l.fn.disk) (moment l.disk);
       target_calls : Calls ⊥ (onto l.fn.target.disk) (onto l.target.disk);
-      told : g.D.Disk.tells → IsUntouched (moment l.fn.disk) (moment l.disk);
+      untouched : g.D.Disk.tells → IsUntouched (moment l.fn.disk) (moment l.disk);
       stored : (slots : List OpenSlot) (t : SpoolState) → g.D.Disk.tells → g.E.Disk.tells → AreKnown slots l.founds (moment l.fn.disk).reads
           → IsIn t [] (view l.fn.target.memory l.fn.target.doubt (onto l.fn.target.disk))
           → HasStored t (told l.tag (take l.found-index slots)) (view l.fn.target.memory l.fn.target.doubt (onto l.fn.target.disk))

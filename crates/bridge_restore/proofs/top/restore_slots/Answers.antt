@@ -46,7 +46,7 @@ returns-clause-run g c =
     let ends : EndsWith why count looked.faults.items gaps.items ended =
     subst (λ (l : List SlotFault). EndsWith why count l gaps.items ended) c.deref-3.ensures.value
     (subst (λ (l : List Span). EndsWith why count c.deref-3.result.now l ended) c.deref-4.ensures.value c.ending_of-note.ensures) in
-    rw (c.of-in-Ok.ensures.note, c.of-in-Ok.ensures.report, c.of-in-Ok.ensures.stored, c.of-in-Ok.ensures.disk, c.of-in-Ok.ensures.target)
+    rw (c.of-2.ensures.note, c.of-2.ensures.report, c.of-2.ensures.stored, c.of-2.ensures.disk, c.of-2.ensures.target)
     (λ given is. record {
       known = ends_known why count looked.faults.items gaps.items ended did.known ends;
       calls = both_calls looked.faults.items gaps.items count _ _ _ _ _ c.look_at_all.ensures.calls why ended ends did.disks;
