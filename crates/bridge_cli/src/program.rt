@@ -17,7 +17,8 @@ use std::io::{self, IsTerminal};
 use std::sync::{Arc, Wait};
 use std::thread::Threads;
 
-// What is said of the net, whose senders may have tokens of a file, and how much memory its connections may take, as the options have it.
+// What is said of the net, whose senders may have tokens of a file, how much memory its connections may take, and through which
+// proxies they come, as the options have it.
 fn reports_of(options: RunOptions, tokens: Option<TokenFile>) -> Reports {
     let reports = if options.is_quiet {
         Reports::quiet()
@@ -28,6 +29,10 @@ fn reports_of(options: RunOptions, tokens: Option<TokenFile>) -> Reports {
         .of_version(version_day())
         .with_verbose(options.is_verbose)
         .with_tokens(tokens);
+    let reports = match options.proxies {
+        Some(proxies) => reports.with_proxies(proxies),
+        None => reports,
+    };
     match options.memory {
         Some(bytes) => reports.with_memory(bytes),
         None => reports,

@@ -51,6 +51,8 @@ Options, after the command's name:
   --idle SECONDS        serve: how long a sender may be silent, 1 to 86400 (600)
   --memory BYTES        serve: how much memory senders' connections may take, 16777216 to
                         8589934592 (268435456)
+  --accept-proxy IPS    serve: senders come through these proxies alone, 1 to 8 addresses with
+                        commas, which send the head of the PROXY protocol first
   --quiet               any: standard error gets no line about the network
   --verbose             any: standard error says which connection each sender has
   --log-time            any: lines on standard error have the time before them

@@ -16,6 +16,7 @@ mod memory;
 mod misspelt;
 mod opening;
 mod progress;
+mod proxy_words;
 mod report;
 mod rescue_words;
 mod run_options;

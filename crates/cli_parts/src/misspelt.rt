@@ -48,7 +48,7 @@ const DRAIN: [&str; 8] = [
     "--version",
 ];
 
-const SERVE: [&str; 23] = [
+const SERVE: [&str; 24] = [
     "--relp",
     "--lumberjack",
     "--hec",
@@ -67,6 +67,7 @@ const SERVE: [&str; 23] = [
     "--polls",
     "--idle",
     "--memory",
+    "--accept-proxy",
     "--quiet",
     "--verbose",
     "--log-time",

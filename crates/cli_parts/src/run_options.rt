@@ -9,7 +9,9 @@ ghost use Rattle.cli_parts.specs.RunOptions.{IsNoBytes, IsNoSeconds, IsWrong, Is
 ghost use Rattle.cli_parts.specs.Piece.{IsPiece, IsPlain, IsTaken, TakesNext};
 
 use crate::bytes::bytes;
+use crate::proxy_words::proxies;
 use crate::seconds::seconds;
+use edge_net::Proxies;
 use std::alloc::{AllocError, Global};
 use thiserror::Error;
 
@@ -28,6 +30,8 @@ pub struct RunOptions {
     /// How many bytes of memory the connections of senders may take, where that is said: 16,777,216 to 8,589,934,592, by
     /// `--memory BYTES`.
     pub memory: Option<u64>,
+    /// Through which proxies senders come, where that is said: one to eight addresses, by `--accept-proxy IPS`.
+    pub proxies: Option<Proxies>,
 }
 
 /// An option of a run that has no value.
@@ -91,6 +95,14 @@ pub enum WrongOption {
     MemoryNoValue,
     /// BYTES isn't 16,777,216 to 8,589,934,592.
     MemoryRange,
+    /// `--accept-proxy` stands with another command than `serve`.
+    ProxyElsewhere,
+    /// `--accept-proxy` is given twice.
+    ProxyTwice,
+    /// `--accept-proxy` is the last of the words.
+    ProxyNoValue,
+    /// IPS aren't one to eight addresses of IP with commas between them.
+    ProxyNone,
 }
 
 impl WrongOption {
@@ -116,6 +128,18 @@ impl WrongOption {
             WrongOption::MemoryNoValue => "--memory: no value; 16777216 to 8589934592 bytes",
             WrongOption::MemoryRange => {
                 "--memory: 16777216 to 8589934592 bytes; the largest request needs the least of these"
+            }
+            WrongOption::ProxyElsewhere => {
+                "--accept-proxy: an option of serve alone, addresses of proxies"
+            }
+            WrongOption::ProxyTwice => {
+                "--accept-proxy: given twice; once, with commas between addresses"
+            }
+            WrongOption::ProxyNoValue => {
+                "--accept-proxy: no value; addresses of proxies, with commas between them"
+            }
+            WrongOption::ProxyNone => {
+                "--accept-proxy: 1 to 8 addresses of IP, with commas between them"
             }
         }
     }
@@ -164,6 +188,10 @@ enum Piece<'a> {
     Memory,
     // `--memory` with its value.
     MemoryWith(&'a str),
+    // `--accept-proxy`, whose value is the next word.
+    Proxy,
+    // `--accept-proxy` with its value.
+    ProxyWith(&'a str),
     // No option of a run.
     Other,
 }
@@ -196,6 +224,9 @@ fn piece_of(word: &str) -> Piece<'_>
     if name == "--memory" {
         return Piece::MemoryWith(value);
     }
+    if name == "--accept-proxy" {
+        return Piece::ProxyWith(value);
+    }
     match flag_of(name) {
         Some(flag) => Piece::FlagWith(flag),
         None => Piece::Other,
@@ -211,6 +242,9 @@ fn plain_piece(word: &str) -> Piece<'static>
     }
     if word == "--memory" {
         return Piece::Memory;
+    }
+    if word == "--accept-proxy" {
+        return Piece::Proxy;
     }
     match flag_of(word) {
         Some(flag) => Piece::Flag(flag),
@@ -293,6 +327,21 @@ impl Taken {
         Ok(())
     }
 
+    // Takes the value of `--accept-proxy`, among the words of the command of this name.
+    fn take_proxies(&mut self, name: &str, value: &str) -> Result<(), WrongOption> {
+        if name != "serve" {
+            return Err(WrongOption::ProxyElsewhere);
+        }
+        if self.options.proxies.is_some() {
+            return Err(WrongOption::ProxyTwice);
+        }
+        let Some(proxies) = proxies(value) else {
+            return Err(WrongOption::ProxyNone);
+        };
+        self.options.proxies = Some(proxies);
+        Ok(())
+    }
+
     // Reads the next word of the command of this name, with the one after it where that is its value, and returns the words after these.
     fn read<'a>(
         &mut self,
@@ -333,6 +382,19 @@ impl Taken {
                     Err(wrong) => Err(Untaken::Wrong(wrong)),
                 }
             }
+            Piece::ProxyWith(value) => match self.take_proxies(name, value) {
+                Ok(()) => Ok(more),
+                Err(wrong) => Err(Untaken::Wrong(wrong)),
+            },
+            Piece::Proxy => {
+                let [value, left @ ..] = more else {
+                    return Err(Untaken::Wrong(WrongOption::ProxyNoValue));
+                };
+                match self.take_proxies(name, value.as_str()) {
+                    Ok(()) => Ok(left),
+                    Err(wrong) => Err(Untaken::Wrong(wrong)),
+                }
+            }
             Piece::Flag(flag) => match self.take_flag(flag) {
                 Ok(()) => Ok(more),
                 Err(wrong) => Err(Untaken::Wrong(wrong)),
@@ -347,7 +409,8 @@ impl Taken {
 }
 
 /// Takes the options of the run out of words, which are the name of a command and then its own words: `--quiet`, `--verbose` and
-/// `--log-time`, and with `serve` `--idle SECONDS` or `--idle=SECONDS`, and `--memory` likewise, each once at most. What is left are the
+/// `--log-time`, and with `serve` `--idle SECONDS` or `--idle=SECONDS`, and `--memory` and
+/// `--accept-proxy` likewise, each once at most. What is left are the
 /// other words, in their order, and all from `--` on.
 ///
 /// The error says which is the first option that is wrong, and why, or that no memory was found.
@@ -363,6 +426,7 @@ pub fn take_options(alloc: Global, words: &[String]) -> Result<Taken, Untaken>
             has_time: false,
             idle: None,
             memory: None,
+            proxies: None,
         },
     };
     let [name, rest @ ..] = words else {

@@ -3,6 +3,7 @@ ghost use Rattle.std.specs.Prelude.{◌≡◌, ◌≤◌, length, IfOk};
 
 use crate::budget::{Budget, Part, part_of};
 use crate::closing::close_after_peer;
+use crate::heading::{Due, Headed, Unheaded, read_head};
 use crate::trouble::{Way, is_reset};
 use crate::watch::{Peer, Watch};
 use crate::{Reports, Waits};
@@ -38,6 +39,8 @@ pub struct TcpLink<'a, R> {
     part: Part,
     // How long a read or a write waits for the peer.
     wait: Duration,
+    // What is due of a proxy before the first byte.
+    due: Due,
     // The receiver has broken the connection off while it was written to. What it sent before can still be read.
     is_gone: bool,
     read_errors: u64,
@@ -86,13 +89,15 @@ impl<'a, R> TcpLink<'a, R> {
             reports,
             part: Part::Nothing,
             wait,
+            due: Due::Nothing,
             is_gone: false,
             read_errors: 0,
             write_errors: 0,
         }
     }
 
-    /// The link of a connection that was accepted from this peer.
+    /// The link of a connection that was accepted from this peer. Where proxies are named, the peer has to be one of them and to send the
+    /// head of the PROXY protocol first; then the sender is the peer that it tells.
     pub(crate) fn accepted(
         rt: &'a R,
         reports: &'a Reports,
@@ -104,7 +109,15 @@ impl<'a, R> TcpLink<'a, R> {
         ensures place { place_of result ≡ None }
     {
         let watch = Watch::of(rt, reports, Some(peer), waits.accepted);
-        TcpLink::over(rt, reports, stream, None, waits.accepted, watch)
+        let link = TcpLink::over(rt, reports, stream, None, waits.accepted, watch);
+        let due = if reports.proxies().is_none() {
+            Due::Nothing
+        } else if reports.proxies().have(peer.address.ip()) {
+            Due::Head
+        } else {
+            Due::Refused
+        };
+        TcpLink { due, ..link }
     }
 
     /// The link of a connection that was dialed at that place.
@@ -206,8 +219,8 @@ fn text_of(place: &Option<String>) -> Option<&str> {
     }
 }
 
-// A read of the stream, which is tried again where a signal interrupts it.
-fn read_on(stream: &mut TcpStream, buf: &mut [u8]) -> io::Result<usize>
+/// A read of the stream, which is tried again where a signal interrupts it.
+pub(crate) fn read_on(stream: &mut TcpStream, buf: &mut [u8]) -> io::Result<usize>
     ensures bound { IfOk result (λ n. n ≤ length buf.new) }
     ensures len { length buf.new ≡ length buf.old }
 {
@@ -269,6 +282,46 @@ impl<R> Object for TcpLink<'_, R> {
     ghost same_trans = { λ _ _ _ _ _. tt };
 }
 
+impl<R: Clock + Eprint> TcpLink<'_, R> {
+    // The same where nothing is due of a proxy; else the head comes first. It gives how often it waited with what came of it.
+    fn read_next(&mut self, buf: &mut [u8]) -> (u64, io::Result<usize>)
+        ensures bound { IfOk result.1 (λ n. n ≤ length buf.new) }
+        ensures len { length buf.new ≡ length buf.old }
+    {
+        match self.pass_head() {
+            Ok(true) => {
+                let times = self.turns();
+                read_patiently(&mut self.stream, self.reports.budget(), times, buf)
+            }
+            Ok(false) => (1, Ok(0)),
+            Err(error) => (1, Err(error)),
+        }
+    }
+
+    // Reads the head of a proxy where one is due, and says whether the connection goes on. Where none comes, that is said, and the
+    // connection is not read any more.
+    fn pass_head(&mut self) -> io::Result<bool> {
+        let headed = match self.due {
+            Due::Nothing => return Ok(true),
+            Due::Head => read_head(self.rt, &mut self.stream, self.wait)?,
+            Due::Refused => Headed::Not(Unheaded::Stranger),
+        };
+        match headed {
+            Headed::Whole(source) => {
+                self.due = Due::Nothing;
+                self.watch.is_sent_by(source);
+                Ok(true)
+            }
+            Headed::Empty => Ok(false),
+            Headed::Not(why) => {
+                self.due = Due::Refused;
+                self.watch.is_unheaded(why);
+                Err(io::Error::from(ErrorKind::InvalidData))
+            }
+        }
+    }
+}
+
 impl<R: Clock + Eprint> Source for TcpLink<'_, R> {
     ghost use Rattle.std.specs.Prelude.{None};
     ghost use Rattle.edge_net.specs.TcpLink.{place_of, read_errors_of, write_errors_of};
@@ -289,11 +342,10 @@ impl<R: Clock + Eprint> Source for TcpLink<'_, R> {
     /// its side. A call that a signal interrupts is made again, up to 1,000 times. Each other error is a fault, and so is a wait in
     /// vain. It waits for ten seconds at most where the connection takes more memory than a short read needs, and another one waits for some.
     fn read(&mut self, buf: &mut [u8]) -> Result<usize, ReadFault> {
-        let times = self.turns();
-        let (waited, outcome) = read_patiently(&mut self.stream, self.reports.budget(), times, buf);
+        let (waited, outcome) = self.read_next(buf);
         match outcome {
             Ok(n) => {
-                if !buf.is_empty() {
+                if !buf.is_empty() && self.due == Due::Nothing {
                     self.watch.saw_read(text_of(&self.place), &buf[..n]);
                 }
                 Ok(n)

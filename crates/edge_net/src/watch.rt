@@ -2,10 +2,12 @@
 use crate::answer::{closes, reason_in};
 use crate::authorized::Authorized;
 use crate::ending::explains;
+use crate::heading::Unheaded;
 use crate::trouble::Way;
 use crate::{Answer, Illness, Matter, Reports, Trouble};
 use edge_io::Proto;
 use event_form::Talk;
+use proxy_head::Source;
 use std::io;
 use std::net::SocketAddr;
 use std::rt::Clock;
@@ -79,7 +81,29 @@ impl<'a, R> Watch<'a, R> {
     }
 }
 
+impl<R> Watch<'_, R> {
+    /// The head of a proxy told the sender, if it did: that is the peer from now on.
+    pub(crate) fn is_sent_by(&mut self, source: Option<Source>) {
+        if let (Some(Source { ip, port }), Some(Peer { conn, .. })) = (source, self.peer) {
+            let address = SocketAddr::new(ip, port);
+            self.peer = Some(Peer { address, conn });
+        }
+    }
+}
+
 impl<R: Clock + Eprint> Watch<'_, R> {
+    /// The connection is ended since it has no head of a proxy. That is said once.
+    pub(crate) fn is_unheaded(&mut self, why: Unheaded) {
+        let Some(peer) = self.peer else {
+            return;
+        };
+        if !self.is_said {
+            self.is_said = true;
+            let matter = Matter::Unheaded { why };
+            self.reports.sender(self.rt, peer.address, matter);
+        }
+    }
+
     // Says that the receiver fails, once for a connection.
     fn fails(&mut self, place: &str, illness: Illness) {
         if !self.is_said {
