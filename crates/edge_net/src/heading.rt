@@ -1,5 +1,5 @@
 //! The head that a proxy puts before the first byte of a connection.
-use crate::link::read_on;
+use crate::patience::read_on;
 use crate::since::millis;
 use proxy_head::{HeadFault, MOST_HEAD, Reading, Source, read};
 use std::io::{self, ErrorKind};

@@ -1,30 +1,25 @@
 //! A connection over TCP.
-ghost use Rattle.std.specs.Prelude.{◌≡◌, ◌≤◌, length, IfOk};
+ghost use Rattle.std.specs.Prelude.{◌≡◌};
 
-use crate::budget::{Budget, Part, part_of};
+use crate::budget::{Part, part_of};
 use crate::closing::close_after_peer;
 use crate::heading::{Due, Headed, Unheaded, read_head};
+use crate::patience::{read_patiently, turn_of, turns_of, write_on};
 use crate::trouble::{Way, is_reset};
 use crate::watch::{Peer, Watch};
-use crate::{Reports, Waits};
+use crate::{LinkSettings, Reports, Waits};
 use edge_io::{Link, Object, Proto, ReadFault, Sink, Source, WriteFault};
 use event_form::Talk;
 use libc::net::{POLLIN, poll};
 use libc::types::pollfd;
-use std::io::{self, ErrorKind, Read, Write};
+use std::io;
 use std::net::TcpStream;
 use std::os::fd::AsRawFd;
 use std::rt::Clock;
 use std::time::Duration;
 
-// How many times a call is made, where signals interrupt it each time.
-const MOST_TRIES: u32 = 1_000;
-
 // How long a peer sends nothing that is said to be silent, in milliseconds.
 const SILENT_MILLIS: i32 = 1_000;
-
-// How long a sender may be silent whose connection takes much memory while another one waits for some, in seconds.
-const TURN_SECONDS: u64 = 10;
 
 /// A connection over TCP, that was dialed or accepted. It counts its errors and tells no bytes; standard error says what befell it
 /// ([`Reports`]). The link may be read and written by another thread than the one that made it.
@@ -45,17 +40,6 @@ pub struct TcpLink<'a, R> {
     is_gone: bool,
     read_errors: u64,
     write_errors: u64,
-}
-
-/// What the system has set for the socket of a link.
-#[derive(Clone, Copy, PartialEq, Eq)]
-pub struct LinkSettings {
-    /// Each write goes out at once, and none is held back until more is written.
-    pub is_prompt: bool,
-    /// How long a read waits for the peer, or for as long as it likes.
-    pub read_wait: Option<Duration>,
-    /// How long a write waits for the peer, or for as long as it likes.
-    pub write_wait: Option<Duration>,
 }
 
 impl<'a, R> TcpLink<'a, R> {
@@ -160,36 +144,24 @@ impl<'a, R> TcpLink<'a, R> {
 }
 
 impl<R> TcpLink<'_, R> {
-    // How long a call of the system waits for the peer: as long as the link does, or a turn of that where it takes much memory.
-    fn turn(&self) -> Duration {
-        match self.part {
-            Part::Many(_) => self.wait.min(Duration::from_secs(TURN_SECONDS)),
-            _ => self.wait,
-        }
-    }
-
-    // How many turns a read waits.
-    fn turns(&self) -> u64 {
-        match self.part {
-            Part::Many(_) => (self.wait.as_secs() / TURN_SECONDS).max(1),
-            _ => 1,
-        }
-    }
-
     // Notes that a read waited that many turns, where they are none of as long as the link waits.
     fn note_turns(&mut self, waited: u64)
         ensures errors { (self.new.read_errors ≡ self.old.read_errors) × (self.new.write_errors ≡ self.old.write_errors) }
         ensures place { self.new.place ≡ self.old.place }
     {
         if let Part::Many(_) = self.part {
-            let seconds = self.turn().as_secs().saturating_mul(waited);
+            let seconds = turn_of(self.part, self.wait)
+                .as_secs()
+                .saturating_mul(waited);
             self.watch.waited(Duration::from_secs(seconds));
         }
     }
 
     // Has the system wait for the peer as long as one turn takes. Where it doesn't grant that, a call waits as long as before.
     fn wait_in_turns(&self) {
-        let _ = self.stream.set_read_timeout(Some(self.turn()));
+        let _ = self
+            .stream
+            .set_read_timeout(Some(turn_of(self.part, self.wait)));
     }
 }
 
@@ -217,61 +189,6 @@ fn text_of(place: &Option<String>) -> Option<&str> {
         Some(place) => Some(place.as_str()),
         None => None,
     }
-}
-
-/// A read of the stream, which is tried again where a signal interrupts it.
-pub(crate) fn read_on(stream: &mut TcpStream, buf: &mut [u8]) -> io::Result<usize>
-    ensures bound { IfOk result (λ n. n ≤ length buf.new) }
-    ensures len { length buf.new ≡ length buf.old }
-{
-    for _ in 1..MOST_TRIES {
-        match stream.read(buf) {
-            Err(error) if error.kind() == ErrorKind::Interrupted => {}
-            outcome => return outcome,
-        }
-    }
-    stream.read(buf)
-}
-
-// Whether a read waited for its peer in vain.
-fn is_silence(outcome: &io::Result<usize>) -> bool {
-    match outcome {
-        Err(error) => matches!(error.kind(), ErrorKind::WouldBlock | ErrorKind::TimedOut),
-        Ok(_) => false,
-    }
-}
-
-// A read of the stream, which waits in vain that often at most; but only once while a connection waits for memory. It gives how often it
-// waited with what came of it.
-fn read_patiently(
-    stream: &mut TcpStream,
-    budget: &Budget,
-    times: u64,
-    buf: &mut [u8],
-) -> (u64, io::Result<usize>)
-    ensures bound { IfOk result.1 (λ n. n ≤ length buf.new) }
-    ensures len { length buf.new ≡ length buf.old }
-{
-    for time in 1..times {
-        let outcome = read_on(stream, buf);
-        if !is_silence(&outcome) || budget.is_wanted() {
-            return (time, outcome);
-        }
-    }
-    (times, read_on(stream, buf))
-}
-
-// A write to the stream, which is tried again where a signal interrupts it.
-fn write_on(stream: &mut TcpStream, piece: &[u8]) -> io::Result<usize>
-    ensures bound { IfOk result (λ n. n ≤ length piece.now) }
-{
-    for _ in 1..MOST_TRIES {
-        match stream.write(piece) {
-            Err(error) if error.kind() == ErrorKind::Interrupted => {}
-            outcome => return outcome,
-        }
-    }
-    stream.write(piece)
 }
 
 impl<R> Object for TcpLink<'_, R> {
@@ -425,9 +342,9 @@ impl<R: Clock + Eprint> Link for TcpLink<'_, R> {
             reports
                 .budget()
                 .exchange(rt, self.part, part, reports.is_quiet());
-            let before = self.turn();
+            let before = turn_of(self.part, self.wait);
             self.part = part;
-            if self.turn() != before {
+            if turn_of(self.part, self.wait) != before {
                 self.wait_in_turns();
             }
         }
@@ -447,12 +364,3 @@ impl<R: Clock + Eprint> Link for TcpLink<'_, R> {
 
     ghost writes_keep = { λ x y same. (Prim.cc, Prim.cc, same.0, same.1) };
 }
-
-// A link, what accepts it, and a monitor may be moved to another thread: each impl below owes the proof.
-trait Movable: Send {}
-
-impl<R: Sync> Movable for TcpLink<'_, R> {}
-
-impl<R: Sync> Movable for crate::TcpDoor<'_, R> {}
-
-impl<R: Sync> Movable for crate::TcpMonitor<'_, R> {}

@@ -2,7 +2,7 @@ use Rattle.std.proofs.Common.{◌∷◌, [], List, ℕ, subst, arith}
 use Rattle.std.proofs.lemmas.List.Elements.{All-append, All-cons}
 use Rattle.edge_io.specs.Door.{IsNewDoor}
 use Rattle.edge_net.specs.TcpDoor.{state_of}
-use Rattle.edge_net.proofs.net.doors_over.Goals as goal
+use Rattle.edge_net.proofs.doors.doors_over.Goals as goal
 
 pub doors-preserved : goal.doors-preserved
 doors-preserved g c =

@@ -2,7 +2,7 @@ use Rattle.std.proofs.Common.{◌-◌, ◌≤◌, All, vec_len}
 use Rattle.std.specs.Vec.{vec_capacity}
 use Rattle.edge_io.specs.Door.{IsNewDoor}
 use Rattle.edge_net.specs.TcpDoor.{state_of}
-use Rattle.edge_net.proofs.net.doors_over.Given as goal
+use Rattle.edge_net.proofs.doors.doors_over.Given as goal
 
 abbrev pub invariant-doors : goal.invariant-doors
 invariant-doors g l = record {
