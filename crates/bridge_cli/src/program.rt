@@ -2,12 +2,12 @@
 use crate::device::run_words;
 use bridge_parts::net_note;
 use bridge_words::Command;
-use cli_files::{SystemFiles, run_rescue, run_skip};
+use cli_files::{SystemFiles, run_rescue, run_restore, run_skip};
 use cli_parts::{
     Arguments, Ending, Host, NoArguments, RunOptions, Shown, StandardError, Taken, Told, Untaken,
     WithTokens, answer, confirm, hold_streams, keep_freed, print_beside_usage,
     print_beside_wrong_option, print_ending, print_error, print_note, print_start, rescue_of,
-    skip_of, take_options, version_day, with_bytes, with_tokens,
+    restore_of, skip_of, take_options, version_day, with_bytes, with_tokens,
 };
 use edge_io::FileIo;
 use edge_net::{Manager, Reports, TcpNet, TokenFile, Waits};
@@ -119,6 +119,9 @@ fn run_arguments<R: Threads + Wait + Sync>(
     }
     if let Some(rescue) = rescue_of(&arguments.words) {
         return run_rescue(host, &files, &arguments.file, rescue.layout, &mut output);
+    }
+    if let Some(restore) = restore_of(&arguments.words) {
+        return run_restore(host, &files, &arguments.file, restore);
     }
     let reports = reports_of(options, tokens);
     let told = Told {

@@ -10,9 +10,9 @@ ghost use Rattle.cli_parts.specs.Ending.{note_in};
 ghost use Rattle.cli_files.specs.Opened.{IsUnopened, OverFile};
 
 use crate::files::{Files, How};
-use crate::refused::refuse;
+use crate::refused::{print_refused, refuse};
 use bridge_rescue::{Layout, Rescued, bridge_rescue};
-use cli_parts::{Ending, Host, Progress, Showing, Waiting, Watched, print_note, print_rescue};
+use cli_parts::{Ending, Host, Progress, Showing, Waiting, Watched, print_rescue};
 use edge_disk::Disk;
 use edge_io::Sink;
 
@@ -42,13 +42,6 @@ fn rescue_over<D: Disk, K: Sink>(
         note,
         report,
         disk: disk.into_disk(),
-    }
-}
-
-// Prints the note with which no file was opened. Where a line has said why it isn't, there is none.
-fn print_refused(host: Host<'_>, ending: Ending) {
-    if let Ending::Noted(note) = ending {
-        print_note(&(host, host.rt.alloc()), note);
     }
 }
 

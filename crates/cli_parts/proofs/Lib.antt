@@ -2,5 +2,6 @@ pub mod Listing
 mod Counted
 mod Options
 mod Rescuing
+mod Restoring
 mod Skipping
 pub mod TokenWords

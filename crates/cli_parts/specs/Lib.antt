@@ -4,6 +4,8 @@ pub mod Near
 pub mod Opening
 pub mod Piece
 pub mod RescueWords
+pub mod RestoreWords
+pub mod RestoreParts
 pub mod RunOptions
 pub mod Sizes
 pub mod SkipWords

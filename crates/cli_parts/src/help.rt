@@ -24,7 +24,7 @@ Commands, as `bridge FILE COMMAND ..`:
   load PROTO NUMBER COUNT    tests itself in memory; FILE is not opened
   move TARGET TAG            moves the pending entries into TARGET, which is another spool
   skip NUMBER                prints one pending entry, and confirms it
-  rescue [SLOTS SIZE]        prints what is sound in a FILE that is damaged
+  rescue [SLOTS SIZE]        prints what is sound in a FILE that is damaged, or stores it in another
 
 PROTO is relp, lumberjack or hec. PLACE is an address or a host, a colon and a port.
 
@@ -53,6 +53,8 @@ Options, after the command's name:
                         8589934592 (268435456)
   --accept-proxy IPS    serve: senders come through these proxies alone, 1 to 8 addresses with
                         commas, which send the head of the PROXY protocol first
+  --into TARGET         rescue: stores what it finds into TARGET, another spool
+  --tag TAG             rescue: the tag of these entries there, 0 to 4294967295
   --quiet               any: standard error gets no line about the network
   --verbose             any: standard error says which connection each sender has
   --log-time            any: lines on standard error have the time before them

@@ -19,6 +19,7 @@ mod progress;
 mod proxy_words;
 mod report;
 mod rescue_words;
+mod restore_words;
 mod run_options;
 mod seconds;
 mod severity;
@@ -47,9 +48,10 @@ pub use opening::{Opening, Showing};
 pub use progress::{Progress, Watched};
 pub use report::{
     print_beside_usage, print_beside_wrong_option, print_ending, print_error, print_no_spool,
-    print_note, print_rescue, print_unopened,
+    print_note, print_rescue, print_restore, print_unopened,
 };
 pub use rescue_words::{RescueWords, rescue_of};
+pub use restore_words::{RestoreWords, restore_of};
 pub use run_options::{RunOptions, Taken, Untaken, WrongOption, take_options};
 pub use shown::Shown;
 pub use sizes::with_bytes;

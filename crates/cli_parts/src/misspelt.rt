@@ -75,6 +75,16 @@ const SERVE: [&str; 24] = [
     "--version",
 ];
 
+const RESCUE: [&str; 7] = [
+    "--into",
+    "--tag",
+    "--quiet",
+    "--verbose",
+    "--log-time",
+    "--help",
+    "--version",
+];
+
 /// What a word names.
 #[derive(Clone, Copy, PartialEq, Eq)]
 pub(crate) enum Named {
@@ -105,6 +115,8 @@ fn options_of(command: &str) -> &'static [&'static str] {
         &DRAIN
     } else if command == "serve" {
         &SERVE
+    } else if command == "rescue" {
+        &RESCUE
     } else {
         &OTHERS
     }

@@ -3,7 +3,7 @@
 ghost use Rattle.std.specs.Prelude.{◌≡◌, ◌⊎◌, ◌<◌, ◌^◌, IfOk};
 
 use crate::counted_file::CountedFile;
-use crate::opening::{Opened, make_file, open_file, open_read_only, open_two};
+use crate::opening::{Opened, make_file, open_beside, open_file, open_read_only, open_two};
 use crate::{OpenFault, PairFault, Sharing, WholePages};
 use edge_disk::{Disk, DiskFault};
 
@@ -85,6 +85,20 @@ impl FileDisk {
         ensures { IfOk result (λ disks. ((file_moment disks.0).faults ≡ 0) × ((file_moment disks.1).faults ≡ 0)) }
     {
         let [one, other] = open_two(rt, first, second)?;
+        Ok((disk_of(one), disk_of(other)))
+    }
+
+    /// Opens two files that exist, the first as [`FileDisk::open_to_read`] does and the second as [`FileDisk::open`] does, for this program
+    /// alone, and says why they aren't opened: the first before the second, and `OneFile` where both names are of one file, also by a link, or
+    /// of one block device.
+    pub fn open_beside(
+        rt: &HostRuntime,
+        first: &str,
+        second: &str,
+    ) -> Result<(FileDisk, FileDisk), PairFault>
+        ensures { IfOk result (λ disks. ((file_moment disks.0).faults ≡ 0) × ((file_moment disks.1).faults ≡ 0)) }
+    {
+        let [one, other] = open_beside(rt, first, second)?;
         Ok((disk_of(one), disk_of(other)))
     }
 

@@ -153,6 +153,25 @@ pub(crate) fn open_two(
     Ok([one, other])
 }
 
+/// Two files that exist: the first opened to be read alone and locked beside others that share it, and the second locked for this program
+/// alone.
+pub(crate) fn open_beside(
+    rt: &HostRuntime,
+    first: &str,
+    second: &str,
+) -> Result<[Opened; 2], PairFault> {
+    let one = open_read_only(rt, first).map_err(PairFault::First)?;
+    let one_id = FileId::of(&one.file).map_err(|error| PairFault::First(error.into()))?;
+    let (other, other_id) = open_known(rt, second).map_err(|error| PairFault::Second(
+        error.into(),
+    ))?;
+    if one_id == other_id {
+        return Err(PairFault::OneFile);
+    }
+    let other = hold_alone(rt, second, other).map_err(PairFault::Second)?;
+    Ok([one, other])
+}
+
 // The length in bytes of a file or a block device, whose metadata has none. Anything else, as a pipe, has no length.
 fn len_of(file: &mut File) -> Result<u64, OpenFault> {
     let metadata = file.metadata()?;
