@@ -1,5 +1,5 @@
 //! A connection over TCP.
-ghost use Rattle.std.specs.Prelude.{◌≡◌};
+ghost use Rattle.std.specs.Prelude.{◌≡◌, ◌≤◌, length, IfOk};
 
 use crate::budget::{Part, part_of};
 use crate::closing::close_after_peer;
@@ -12,7 +12,7 @@ use edge_io::{Link, Object, Proto, ReadFault, Sink, Source, WriteFault};
 use event_form::Talk;
 use libc::net::{POLLIN, poll};
 use libc::types::pollfd;
-use std::io;
+use std::io::{self, ErrorKind};
 use std::net::TcpStream;
 use std::os::fd::AsRawFd;
 use std::rt::Clock;
@@ -207,7 +207,7 @@ impl<R: Clock + Eprint> TcpLink<'_, R> {
     {
         match self.pass_head() {
             Ok(true) => {
-                let times = self.turns();
+                let times = turns_of(self.part, self.wait);
                 read_patiently(&mut self.stream, self.reports.budget(), times, buf)
             }
             Ok(false) => (1, Ok(0)),
