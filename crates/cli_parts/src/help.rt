@@ -5,7 +5,7 @@ ghost use Rattle.cli_parts.specs.Help.{asked_by, IsFirst, IsSilent};
 
 /// The version: the newest head of the changes that CHANGELOG.md tells of, which is their day, and a number after it where the day has
 /// several.
-const VERSION: &str = "bridge 2026-12-01.3";
+const VERSION: &str = "bridge 2026-12-02";
 
 /// The page of help: what FILE is, a line for each command, for each option and for each exit status. tests/pages compares it with the
 /// manual.
