@@ -1,3 +1,4 @@
+pub mod CheckWords
 pub mod Ending
 pub mod Help
 pub mod Near

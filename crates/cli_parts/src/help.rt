@@ -24,6 +24,7 @@ Commands, as `bridge FILE COMMAND ..`:
   load PROTO NUMBER COUNT    tests itself in memory; FILE is not opened
   move TARGET TAG            moves the pending entries into TARGET, which is another spool
   skip NUMBER                prints one pending entry, and confirms it
+  check                      reads FILE through, and says what is at fault; nothing is changed
   rescue [SLOTS SIZE]        prints what is sound in a FILE that is damaged, or stores it in another
 
 PROTO is relp, lumberjack or hec. PLACE is an address or a host, a colon and a port.
@@ -88,7 +89,7 @@ struct Example {
 }
 
 // One of each command.
-const EXAMPLES: [Example; 9] = [
+const EXAMPLES: [Example; 10] = [
     Example {
         command: "format",
         call: "bridge /var/lib/bridge/logs format 16 64M",
@@ -120,6 +121,10 @@ const EXAMPLES: [Example; 9] = [
     Example {
         command: "skip",
         call: "bridge /var/lib/bridge/logs skip 81235 >> skipped.json",
+    },
+    Example {
+        command: "check",
+        call: "bridge /var/lib/bridge/logs check",
     },
     Example {
         command: "rescue",

@@ -7,6 +7,7 @@ mod arguments;
 mod asked;
 mod backlog;
 mod bytes;
+mod check_words;
 mod confirming;
 mod digits;
 mod health;
@@ -39,6 +40,7 @@ mod unopened;
 pub use arguments::{Arguments, NoArguments};
 pub use asked::answer;
 pub use backlog::{Backlog, Batch};
+pub use check_words::{is_check, words_of_list};
 pub use confirming::confirm;
 pub use health::{Told, Waiting};
 pub use help::version_day;
@@ -47,13 +49,13 @@ pub use memory::keep_freed;
 pub use opening::{Opening, Showing};
 pub use progress::{Progress, Watched};
 pub use report::{
-    print_beside_usage, print_beside_wrong_option, print_ending, print_error, print_no_spool,
+    print_beside_usage, print_beside_wrong_option, print_check, print_ending, print_error, print_no_spool,
     print_note, print_rescue, print_restore, print_unopened,
 };
 pub use rescue_words::{RescueWords, rescue_of};
 pub use restore_words::{RestoreWords, restore_of};
 pub use run_options::{RunOptions, Taken, Untaken, WrongOption, take_options};
-pub use shown::Shown;
+pub use shown::{Reader, Shown};
 pub use sizes::with_bytes;
 pub use skip_words::skip_of;
 pub use standard_error::{Host, StandardError};

@@ -10,8 +10,8 @@ use strsim::levenshtein;
 const NEAR: usize = 2;
 
 // The commands, and the options of each. The last two of these stand without a command too.
-const COMMANDS: [&str; 9] = [
-    "format", "replay", "list", "drain", "serve", "load", "move", "skip", "rescue",
+const COMMANDS: [&str; 10] = [
+    "format", "replay", "list", "drain", "serve", "load", "move", "skip", "check", "rescue",
 ];
 
 const NO_COMMAND: [&str; 2] = ["--help", "--version"];

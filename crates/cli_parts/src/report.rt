@@ -1,5 +1,6 @@
 //! The lines on standard error. A write of them that fails is not reported.
 use crate::arguments::Arguments;
+use crate::check_words::{begins_check, is_check};
 use crate::misspelt::{Misspelt, Named, misspelt_in};
 use crate::rescue_words::{begins_rescue, rescue_of};
 use crate::restore_words::restore_of;
@@ -55,13 +56,32 @@ fn print_gap(rt: &impl Eprint, gap: Span) {
     };
 }
 
-// Prints how many slots are sound, and how many entries were printed.
-fn print_counts(rt: &impl Eprint, report: &Report) {
+// How many slots are sound, closed, and at fault.
+fn counts_of(report: &Report) -> (usize, usize, usize) {
     let sound = report.sound as usize;
     let wrong = report.faults.len();
     let closed = (report.slots as usize)
         .saturating_sub(sound)
         .saturating_sub(wrong);
+    (sound, closed, wrong)
+}
+
+// Prints how many slots are sound, and how many entries are in them.
+fn print_checked(rt: &impl Eprint, report: &Report) {
+    let (sound, closed, wrong) = counts_of(report);
+    let _ = match report.printed {
+        Some(found) => eprintln!(rt;
+            "bridge: slots: {sound} sound, {closed} closed, {wrong} at fault; entries: {found}"
+        ),
+        None => eprintln!(rt;
+            "bridge: slots: {sound} sound, {closed} closed, {wrong} at fault; not all entries were read"
+        ),
+    };
+}
+
+// Prints how many slots are sound, and how many entries were printed.
+fn print_counts(rt: &impl Eprint, report: &Report) {
+    let (sound, closed, wrong) = counts_of(report);
     let _ = match report.printed {
         Some(printed) => eprintln!(rt;
             "bridge: slots: {sound} sound, {closed} closed, {wrong} at fault; entries printed: {printed}"
@@ -74,11 +94,7 @@ fn print_counts(rt: &impl Eprint, report: &Report) {
 
 // Prints how many slots are sound, and how many entries were stored into another spool.
 fn print_stored(rt: &impl Eprint, report: &Report, stored: u64) {
-    let sound = report.sound as usize;
-    let wrong = report.faults.len();
-    let closed = (report.slots as usize)
-        .saturating_sub(sound)
-        .saturating_sub(wrong);
+    let (sound, closed, wrong) = counts_of(report);
     let _ = match report.printed {
         Some(_) => eprintln!(rt;
             "bridge: slots: {sound} sound, {closed} closed, {wrong} at fault; entries stored: {stored}"
@@ -135,6 +151,24 @@ pub fn print_rescue(
     print_counts(rt, report);
 }
 
+/// The same of a check, which prints no entries: last is said how many slots are sound, and how many entries they have.
+pub fn print_check(
+    rt: &(impl AllocGlobal + Eprint),
+    path: &str,
+    note: Note,
+    report: Option<&Report>,
+) {
+    let Some(report) = report else {
+        print_no_layout(rt, path, note);
+        return;
+    };
+    print_found(rt, report);
+    if !matches!(note, Note::NotSpool { .. }) {
+        print_note(rt, note);
+    }
+    print_checked(rt, report);
+}
+
 /// The same of a rescue into the spool of another path: which of the two is no spool is said too, and last how many entries that one has
 /// taken.
 pub fn print_restore(
@@ -160,13 +194,16 @@ pub fn print_restore(
 }
 
 /// Prints why what the arguments asked for ended, where it didn't end well: the note's text, but of a skip that found no pending entry, or
-/// no room for a stretch more, what that means. Of a rescue it prints nothing: [`print_rescue`] and [`print_restore`] do; nor of a file that isn't opened,
-/// which has its own line.
+/// no room for a stretch more, what that means. Of a rescue and of a check it prints nothing: [`print_rescue`],
+/// [`print_restore`] and [`print_check`] do; nor of a file that isn't opened, which has its own line.
 pub fn print_ending(rt: &(impl AllocGlobal + Eprint), arguments: &Arguments, ending: Ending) {
     let Ending::Noted(note) = ending else {
         return;
     };
-    if rescue_of(&arguments.words).is_some() || restore_of(&arguments.words).is_some() {
+    if is_check(&arguments.words)
+        || rescue_of(&arguments.words).is_some()
+        || restore_of(&arguments.words).is_some()
+    {
         return;
     }
     let _ = match (skip_of(&arguments.words), note) {
@@ -203,6 +240,8 @@ pub fn print_beside_usage(rt: &(impl AllocGlobal + Eprint), arguments: &Argument
             rt,
             "skip takes NUMBER, the number of a pending entry, and nothing else",
         );
+    } else if begins_check(&arguments.words) {
+        print_line(rt, "check takes nothing else");
     } else if begins_rescue(&arguments.words) {
         print_line(
             rt,
