@@ -12,9 +12,7 @@ ghost use Rattle.cli_files.specs.Opened.{IsUnopened, OverFile};
 use crate::files::{Files, How};
 use crate::refused::{print_refused, refuse};
 use bridge_rescue::{Layout, Rescued, bridge_rescue};
-use cli_parts::{
-    Ending, Host, Progress, Showing, Waiting, Watched, print_check, print_rescue,
-};
+use cli_parts::{Ending, Host, Progress, Showing, Waiting, Watched, print_check, print_rescue};
 use edge_disk::Disk;
 use edge_io::Sink;
 

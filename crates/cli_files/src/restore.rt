@@ -30,7 +30,12 @@ fn restore_over<D: Disk, E: Disk>(
         result.report result.stored result.note }
 {
     let disk = Watched::new(disk, Progress::new(host, is_shown), "FILE", Waiting::Nobody);
-    let target = Watched::new(target, Progress::new(host, false), "TARGET", Waiting::Nobody);
+    let target = Watched::new(
+        target,
+        Progress::new(host, false),
+        "TARGET",
+        Waiting::Nobody,
+    );
     let Restored {
         status,
         note,

@@ -49,8 +49,8 @@ pub use memory::keep_freed;
 pub use opening::{Opening, Showing};
 pub use progress::{Progress, Watched};
 pub use report::{
-    print_beside_usage, print_beside_wrong_option, print_check, print_ending, print_error, print_no_spool,
-    print_note, print_rescue, print_restore, print_unopened,
+    print_beside_usage, print_beside_wrong_option, print_check, print_ending, print_error,
+    print_no_spool, print_note, print_rescue, print_restore, print_unopened,
 };
 pub use rescue_words::{RescueWords, rescue_of};
 pub use restore_words::{RestoreWords, restore_of};
