@@ -217,7 +217,6 @@ impl<R: Clock + Eprint> TcpLink<'_, R> {
 
     // Reads the head of a proxy where one is due, and says whether the connection goes on. Where none comes, that is said, and the
     // connection is not read any more.
-    #[inline(never)]
     fn pass_head(&mut self) -> io::Result<bool> {
         let headed = match self.due {
             Due::Nothing => return Ok(true),
