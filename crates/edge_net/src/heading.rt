@@ -47,6 +47,8 @@ fn is_over(rt: &impl Clock, began: u64, wait: Duration) -> bool {
 }
 
 /// Reads the head from a stream, byte by byte, so that what follows it is left there. It has as long to come as a sender may be silent.
+// It is kept out of line: each read of a connection would else take as much stack as it does.
+#[inline(never)]
 pub(crate) fn read_head(
     rt: &impl Clock,
     stream: &mut TcpStream,

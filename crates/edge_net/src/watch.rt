@@ -31,6 +31,8 @@ struct Refused {
     line: Option<usize>,
 }
 
+// What says something of a connection is kept out of line: a thread that waits in a read would else hold on its stack what it takes to
+// write a line.
 /// What is seen of a connection, and where it is said. It changes nothing of the connection.
 #[derive(Drop)]
 pub(crate) struct Watch<'a, R> {
@@ -93,6 +95,7 @@ impl<R> Watch<'_, R> {
 
 impl<R: Clock + Eprint> Watch<'_, R> {
     /// The connection is ended since it has no head of a proxy. That is said once.
+    #[inline(never)]
     pub(crate) fn is_unheaded(&mut self, why: Unheaded) {
         let Some(peer) = self.peer else {
             return;
@@ -122,6 +125,7 @@ impl<R: Clock + Eprint> Watch<'_, R> {
     }
 
     // Bytes came. Of the first ones of a connection that was accepted it is said which number it has, where that is asked for.
+    #[inline(never)]
     fn note_read(&mut self) {
         if self.has_read {
             return;
@@ -133,6 +137,7 @@ impl<R: Clock + Eprint> Watch<'_, R> {
     }
 
     /// A read that asked for some bytes gave these. Where the connection was dialed, `place` is where.
+    #[inline(never)]
     pub(crate) fn saw_read(&mut self, place: Option<&str>, bytes: &[u8]) {
         if !bytes.is_empty() {
             self.note_read();
@@ -162,6 +167,7 @@ impl<R: Clock + Eprint> Watch<'_, R> {
     }
 
     /// A write took so many bytes of this piece. A refusal after which the connection ends is said with its end.
+    #[inline(never)]
     pub(crate) fn saw_write(&mut self, piece: &[u8], taken: usize) {
         let Some(peer) = self.peer else {
             return self.reports.counts().sent.add_many(taken as u64);
@@ -195,6 +201,7 @@ impl<R: Clock + Eprint> Watch<'_, R> {
     }
 
     /// A read or a write failed by this error.
+    #[inline(never)]
     pub(crate) fn saw_error(&mut self, place: Option<&str>, error: &io::Error, way: Way) {
         let trouble = Trouble::of(error, way, self.wait);
         self.trouble = Some(trouble);
@@ -209,6 +216,7 @@ impl<R: Clock + Eprint> Watch<'_, R> {
 
     /// A connection that was accepted was served to its end by this protocol, and ended so, which this exit status stands for. What it was
     /// refused at last is said now, with how it ended where that is why.
+    #[inline(never)]
     pub(crate) fn ended(&self, proto: Proto, status: u8, talk: Talk) {
         let Some(peer) = self.peer else {
             return;
