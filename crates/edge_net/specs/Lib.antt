@@ -4,6 +4,7 @@ pub mod Budget
 pub mod Ending
 pub mod Fullness
 pub mod Pace
+pub mod Heading
 pub mod Page
 pub mod Proxies
 pub mod Receiver
