@@ -17,8 +17,8 @@ mapped_decides segments =
     ((λ t. sym (d.0 t)), (λ e. d.1 (sym e)))
 
 not_so : (b : Bool) → (b ≡ true → ⊥) → b ≡ false
-not_so true no = absurd (no refl)
-not_so false no = refl
+not_so true never = absurd (never refl)
+not_so false never = refl
 
 -- what std says of the canonical form
 pub canonical_is : (given c : IpAddr) → MatchIp given (λ _. c ≡ given) (λ a. IsCanonicalOf a c) → c ≡ canonical given
@@ -32,6 +32,6 @@ found xs n k x below inside same = (k, omega (arith, length-take n xs), get_or-t
 
 -- it stands in none of them
 pub lacking : {X : Type 0} (xs : List X) (n : ℕ) (x : X) → ((k : ℕ) → k < min n (length xs) → get_or xs k x ≡ x → ⊥) → Contains (take n xs) x → ⊥
-lacking xs n x no here =
+lacking xs n x never here =
     let few : here.0 < min n (length xs) = omega (arith, here.1, length-take n xs) in
-    no here.0 few (sym (get_or-take n xs here.0 x (omega (arith, few))) ∙ here.2)
+    never here.0 few (sym (get_or-take n xs here.0 x (omega (arith, few))) ∙ here.2)

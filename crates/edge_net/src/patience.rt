@@ -35,7 +35,7 @@ pub(crate) fn read_on<S: Read>(stream: &mut S, buf: &mut [u8]) -> io::Result<usi
     ensures len { length buf.new ≡ length buf.old }
     ensures bytes { ReadConsumes (S.remaining stream.old) (S.remaining stream.new) result buf.new }
 {
-    for _ in 1..MOST_TRIES {
+    'tries: for _ in 1..MOST_TRIES {
         match stream.read(buf) {
             Err(error) if error.kind() == ErrorKind::Interrupted => {}
             outcome => return outcome,

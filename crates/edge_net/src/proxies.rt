@@ -76,8 +76,8 @@ impl Proxies {
         ensures { IsTrue result ↔ Contains (named self.now) (canonical address) }
     {
         let address = canonical(address);
-        for named in self.addresses.iter().take(self.count) {
-            if is_same(*named, address) {
+        for at in 0..self.count.min(MOST_PROXIES) {
+            if is_same(self.addresses[at], address) {
                 return true;
             }
         }
