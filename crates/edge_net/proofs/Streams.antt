@@ -1,12 +1,16 @@
 -- What streams have left, read after read, and the bytes of a head that were read from one.
 use Rattle.std.proofs.Common.{◌≡◌, ◌≢◌, ℕ, ◌+◌, ◌<◌, List, [], ◌∷◌, ◌++◌, take, length, set, Option, None, Some, Result, Ok, Err, refl, sym, ap, subst, ◌∙◌, append_assoc, arith}
-use Rattle.std.specs.Io.KnownBytes.{Keeps, Consumes, ReadConsumes}
+use Rattle.std.specs.Io.KnownBytes.{Keeps, Consumes, ReadConsumes, IsAtEnd}
 use Rattle.std.proofs.lemmas.List.{take_more_set, length-take-le, append-nil}
 use Rattle.proxy_head.specs.declared.limits.TheConstants.{LINE}
-use Rattle.proxy_head.specs.Head.{IsBeginning}
+use Rattle.proxy_head.specs.declared.fault.HeadFault.{HeadFault}
+use Rattle.proxy_head.specs.declared.head.Head.{Head}
+use Rattle.proxy_head.specs.Head.{IsBeginning, HasHead, IsFault}
 use Rattle.proxy_head.proofs.Beginnings.{begins_front}
 use Rattle.proxy_head.proofs.SignLaws.{line_itself}
-use Rattle.edge_net.specs.Heading.{IsJustRead}
+use Rattle.edge_net.specs.declared.heading.Headed.TheVariants.{Whole, Not}
+use Rattle.edge_net.specs.declared.heading.Unheaded.TheVariants.{Cut, Wrong}
+use Rattle.edge_net.specs.Heading.{IsJustRead, TakesHead}
 
 pub keeps_itself : (a : Option (List ℕ)) → Keeps a a
 keeps_itself None = tt
@@ -58,3 +62,18 @@ no_more a b c xs h k = subst (λ t. Consumes a c t) (append-nil xs) (consumes_on
 -- some came
 pub some_came : (bytes : List ℕ) (count : ℕ) → count < length bytes → 0 < count → take count bytes ≢ []
 some_came bytes count inside some none = absurd (omega (arith, length-take-le count bytes (omega arith), ap length none))
+
+-- the bytes that were read are a head
+pub whole_head : (a b c : Option (List ℕ)) (bytes : List ℕ) (count byte : ℕ) (xs : List ℕ) (head : Head) → count < length bytes → Consumes a b (take count bytes) → Consumes b c (byte ∷ []) → IsBeginning (take count bytes) → HasHead xs head → xs ≡ take (count + 1) (set bytes count byte) → TakesHead a c (Whole head.source)
+whole_head a b c bytes count byte xs head inside taken one few has same =
+    (xs, subst (λ t. Consumes a c t) (sym same) (one_more a b c bytes count byte inside taken one), (head, has, refl, subst IsJustRead (sym same) (just_read bytes count byte inside few)))
+
+-- they are none
+pub no_head : (a b c : Option (List ℕ)) (bytes : List ℕ) (count byte : ℕ) (xs : List ℕ) (fault : HeadFault) → count < length bytes → Consumes a b (take count bytes) → Consumes b c (byte ∷ []) → IsBeginning (take count bytes) → IsFault xs fault → xs ≡ take (count + 1) (set bytes count byte) → TakesHead a c (Not (Wrong fault))
+no_head a b c bytes count byte xs fault inside taken one few is same =
+    (xs, subst (λ t. Consumes a c t) (sym same) (one_more a b c bytes count byte inside taken one), (is, subst IsJustRead (sym same) (just_read bytes count byte inside few)))
+
+-- the stream ended within them
+pub cut_head : (a b c : Option (List ℕ)) (bytes : List ℕ) (count : ℕ) → count < length bytes → 0 < count → Consumes a b (take count bytes) → Consumes b c [] → IsBeginning (take count bytes) → IsAtEnd c → TakesHead a c (Not Cut)
+cut_head a b c bytes count inside some taken none few ends =
+    (take count bytes, no_more a b c (take count bytes) taken none, (some_came bytes count inside some, few, ends))
