@@ -2,12 +2,14 @@
 ghost use Rattle.std.specs.Prelude.{◌≡◌, None, IfOk};
 ghost use Rattle.std.specs.Option.{option_to_list};
 ghost use Rattle.std.specs.Io.KnownBytes.{Consumes, IsAtEnd};
-ghost use Rattle.edge_net.specs.Heading.{TakesHead};
+ghost use Rattle.edge_net.specs.Heading.{IsDue, TakesHead};
 
+use crate::Proxies;
 use crate::patience::read_on;
 use crate::since::millis;
 use proxy_head::{HeadFault, MOST_HEAD, Reading, Source, read};
 use std::io::{self, ErrorKind, Read};
+use std::net::IpAddr;
 use std::rt::Clock;
 use std::time::Duration;
 
@@ -44,6 +46,19 @@ pub(crate) enum Headed {
     Empty,
     /// No head.
     Not(Unheaded),
+}
+
+/// What is due before the first byte of a connection that comes from this address, where these proxies are named.
+pub(crate) fn due_of(proxies: &Proxies, address: IpAddr) -> Due
+    ensures { IsDue proxies.now address result }
+{
+    if proxies.is_none() {
+        Due::Nothing
+    } else if proxies.have(address) {
+        Due::Head
+    } else {
+        Due::Refused
+    }
 }
 
 // Whether more than `wait` has passed since `began`, in milliseconds of the clock.

@@ -4,7 +4,7 @@ ghost use Rattle.edge_net.specs.declared.heading.Due.TheVariants as Due;
 
 use crate::budget::{Part, part_of};
 use crate::closing::close_after_peer;
-use crate::heading::{Due, Headed, Unheaded, read_head};
+use crate::heading::{Due, Headed, Unheaded, due_of, read_head};
 use crate::patience::{read_patiently, turn_of, turns_of, write_on};
 use crate::trouble::{Way, is_reset};
 use crate::watch::{Peer, Watch};
@@ -99,13 +99,7 @@ impl<'a, R> TcpLink<'a, R> {
     {
         let watch = Watch::of(rt, reports, Some(peer), waits.accepted);
         let link = TcpLink::over(rt, reports, stream, None, waits.accepted, watch);
-        let due = if reports.proxies().is_none() {
-            Due::Nothing
-        } else if reports.proxies().have(peer.address.ip()) {
-            Due::Head
-        } else {
-            Due::Refused
-        };
+        let due = due_of(&reports.proxies(), peer.address.ip());
         TcpLink { due, ..link }
     }
 
