@@ -28,15 +28,15 @@ consumes_nothing (Some xs) = refl
 
 pub consumes_kept : (a b c : Option (List ℕ)) (xs : List ℕ) → Keeps a b → Consumes b c xs → Consumes a c xs
 consumes_kept None b c xs h k = tt
-consumes_kept (Some as) None c xs h k = absurd h
-consumes_kept (Some as) (Some bs) None xs h k = absurd k
-consumes_kept (Some as) (Some bs) (Some cs) xs h k = sym h ∙ k
+consumes_kept (Some us) None c xs h k = absurd h
+consumes_kept (Some us) (Some vs) None xs h k = absurd k
+consumes_kept (Some us) (Some vs) (Some ws) xs h k = sym h ∙ k
 
 pub consumes_on : (a b c : Option (List ℕ)) (xs ys : List ℕ) → Consumes a b xs → Consumes b c ys → Consumes a c (xs ++ ys)
 consumes_on None b c xs ys h k = tt
-consumes_on (Some as) None c xs ys h k = absurd h
-consumes_on (Some as) (Some bs) None xs ys h k = absurd k
-consumes_on (Some as) (Some bs) (Some cs) xs ys h k = h ∙ ap (λ t. xs ++ t) k ∙ sym (append_assoc xs ys cs)
+consumes_on (Some us) None c xs ys h k = absurd h
+consumes_on (Some us) (Some vs) None xs ys h k = absurd k
+consumes_on (Some us) (Some vs) (Some ws) xs ys h k = h ∙ ap (λ t. xs ++ t) k ∙ sym (append_assoc xs ys ws)
 
 -- a read after reads that failed
 pub reads_kept : {E : Type 0} (a b c : Option (List ℕ)) (r : Result ℕ E) (buf : List ℕ) → Keeps a b → ReadConsumes b c r buf → ReadConsumes a c r buf

@@ -8,7 +8,8 @@ use crate::page::{pending_of, room_of};
 use crate::since::millis;
 use crate::token_places::{Standing, line_of};
 use crate::{
-    FileCounts, Illness, Line, Matter, Proxies, Receiver, Recent, Since, Standstill, TokenFile, Topic,
+    FileCounts, Illness, Line, Matter, Proxies, Receiver, Recent, Since, Standstill, TokenFile,
+    Topic,
 };
 use edge_io::{HeldUp, SpoolNumbers};
 use std::net::SocketAddr;
