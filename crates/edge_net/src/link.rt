@@ -1,9 +1,10 @@
 //! A connection over TCP.
-ghost use Rattle.std.specs.Prelude.{◌≡◌, ◌≤◌, length, IfOk};
+ghost use Rattle.std.specs.Prelude.{◌≡◌, ◌<◌, ◌≤◌, length, IfOk};
+ghost use Rattle.edge_net.specs.declared.heading.Due.TheVariants as Due;
 
 use crate::budget::{Part, part_of};
 use crate::closing::close_after_peer;
-use crate::heading::{Due, Headed, Unheaded, read_head};
+use crate::heading::{Due, Headed, Unheaded, due_of, read_head};
 use crate::patience::{read_patiently, turn_of, turns_of, write_on};
 use crate::trouble::{Way, is_reset};
 use crate::watch::{Peer, Watch};
@@ -46,6 +47,8 @@ impl<'a, R> TcpLink<'a, R> {
     ghost use Rattle.std.specs.Prelude.{Some, None};
     ghost use Rattle.std.specs.Option.{option_map};
     ghost use Rattle.std.specs.String.{string_bytes};
+    ghost use Rattle.std.specs.Net.Socket.{socket_ip};
+    ghost use Rattle.edge_net.specs.Heading.{IsDue};
     ghost use Rattle.edge_net.specs.TcpLink.{place_of, read_errors_of, write_errors_of, IsUnfailed};
 
     // A link over the stream, of which a read or a write waits for its peer for as long as `wait` at most. An answer isn't held
@@ -61,6 +64,7 @@ impl<'a, R> TcpLink<'a, R> {
     ) -> TcpLink<'a, R>
         ensures unfailed { IsUnfailed result }
         ensures place { place_of result ≡ option_map string_bytes place }
+        ensures due { result.due ≡ Due.Nothing }
     {
         let _ = stream.set_nodelay(true);
         let _ = stream.set_read_timeout(Some(wait));
@@ -91,16 +95,11 @@ impl<'a, R> TcpLink<'a, R> {
     ) -> TcpLink<'a, R>
         ensures unfailed { IsUnfailed result }
         ensures place { place_of result ≡ None }
+        ensures due { IsDue reports.now.proxies (socket_ip peer.address) result.due }
     {
         let watch = Watch::of(rt, reports, Some(peer), waits.accepted);
         let link = TcpLink::over(rt, reports, stream, None, waits.accepted, watch);
-        let due = if reports.proxies().is_none() {
-            Due::Nothing
-        } else if reports.proxies().have(peer.address.ip()) {
-            Due::Head
-        } else {
-            Due::Refused
-        };
+        let due = due_of(&reports.proxies(), peer.address.ip());
         TcpLink { due, ..link }
     }
 
@@ -114,6 +113,7 @@ impl<'a, R> TcpLink<'a, R> {
     ) -> TcpLink<'a, R>
         ensures unfailed { IsUnfailed result }
         ensures place { place_of result ≡ Some (string_bytes place) }
+        ensures due { result.due ≡ Due.Nothing }
     {
         let watch = Watch::of(rt, reports, None, waits.dialed);
         TcpLink::over(rt, reports, stream, Some(place), waits.dialed, watch)
@@ -200,10 +200,16 @@ impl<R> Object for TcpLink<'_, R> {
 }
 
 impl<R: Clock + Eprint> TcpLink<'_, R> {
-    // The same where nothing is due of a proxy; else the head comes first. It gives how often it waited with what came of it.
+    ghost use Rattle.edge_net.specs.Heading.{IsPassed, IsTaken, IsSentBy, source_of};
+    ghost use Rattle.edge_net.specs.TcpLink.{IsUnharmed};
+
+    // A read of the stream, before which the head comes that is due of a proxy. It gives how often it waited with what came of it. It gives
+    // bytes only once nothing is due.
     fn read_next(&mut self, buf: &mut [u8]) -> (u64, io::Result<usize>)
         ensures bound { IfOk result.1 (λ n. n ≤ length buf.new) }
         ensures len { length buf.new ≡ length buf.old }
+        ensures head { IfOk result.1 (λ n. 0 < n → self.new.due ≡ Due.Nothing) }
+        ensures kept { IsUnharmed self.old self.new }
     {
         match self.pass_head() {
             Ok(true) => {
@@ -215,27 +221,53 @@ impl<R: Clock + Eprint> TcpLink<'_, R> {
         }
     }
 
-    // Reads the head of a proxy where one is due, and says whether the connection goes on. Where none comes, that is said, and the
-    // connection is not read any more.
-    fn pass_head(&mut self) -> io::Result<bool> {
-        let headed = match self.due {
-            Due::Nothing => return Ok(true),
-            Due::Head => read_head(self.rt, &mut self.stream, self.wait)?,
-            Due::Refused => Headed::Not(Unheaded::Stranger),
-        };
+    // Reads the head of a proxy where one is due, and says whether the connection goes on. Where none comes whole, the connection is never
+    // read again.
+    fn pass_head(&mut self) -> io::Result<bool>
+        ensures passed { IsPassed self.old.due self.new.due result }
+        ensures kept { IsUnharmed self.old self.new }
+    {
+        match self.due {
+            Due::Nothing => Ok(true),
+            Due::Head => {
+                self.due = Due::Ended;
+                let headed = read_head(self.rt, &mut self.stream, self.wait)?;
+                self.take_head(headed)
+            }
+            Due::Refused => self.take_head(Headed::Not(Unheaded::Stranger)),
+            Due::Ended => Err(io::Error::from(ErrorKind::InvalidData)),
+        }
+    }
+
+    // Takes what came where a head was due. That none came is said.
+    fn take_head(&mut self, headed: Headed) -> io::Result<bool>
+        ensures taken { IsTaken headed self.old.due self.new.due result }
+        ensures sender { IsSentBy (source_of headed) self.old.watch.peer self.new.watch.peer }
+        ensures kept { IsUnharmed self.old self.new }
+    {
         match headed {
             Headed::Whole(source) => {
                 self.due = Due::Nothing;
                 self.watch.is_sent_by(source);
                 Ok(true)
             }
-            Headed::Empty => Ok(false),
+            Headed::Empty => {
+                self.due = Due::Head;
+                Ok(false)
+            }
             Headed::Not(why) => {
-                self.due = Due::Refused;
                 self.watch.is_unheaded(why);
                 Err(io::Error::from(ErrorKind::InvalidData))
             }
         }
+    }
+
+    // Notes what a read gave that asked for some bytes, once nothing is due.
+    fn note_bytes(&mut self, bytes: &[u8])
+        requires { self.old.due ≡ Due.Nothing }
+        ensures { IsUnharmed self.old self.new }
+    {
+        self.watch.saw_read(text_of(&self.place), bytes)
     }
 }
 
@@ -263,7 +295,7 @@ impl<R: Clock + Eprint> Source for TcpLink<'_, R> {
         match outcome {
             Ok(n) => {
                 if !buf.is_empty() && self.due == Due::Nothing {
-                    self.watch.saw_read(text_of(&self.place), &buf[..n]);
+                    self.note_bytes(&buf[..n]);
                 }
                 Ok(n)
             }

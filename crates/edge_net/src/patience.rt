@@ -1,5 +1,6 @@
 //! How long, and how often, a link's calls wait for the peer.
 ghost use Rattle.std.specs.Prelude.{◌≡◌, ◌≤◌, length, IfOk};
+ghost use Rattle.std.specs.Io.KnownBytes.{ReadConsumes};
 
 use crate::budget::{Budget, Part};
 use std::io::{self, ErrorKind, Read, Write};
@@ -29,11 +30,12 @@ pub(crate) fn turns_of(part: Part, wait: Duration) -> u64 {
 }
 
 /// A read of the stream, which is tried again where a signal interrupts it.
-pub(crate) fn read_on(stream: &mut TcpStream, buf: &mut [u8]) -> io::Result<usize>
+pub(crate) fn read_on<S: Read>(stream: &mut S, buf: &mut [u8]) -> io::Result<usize>
     ensures bound { IfOk result (λ n. n ≤ length buf.new) }
     ensures len { length buf.new ≡ length buf.old }
+    ensures bytes { ReadConsumes (S.remaining stream.old) (S.remaining stream.new) result buf.new }
 {
-    for _ in 1..MOST_TRIES {
+    'tries: for _ in 1..MOST_TRIES {
         match stream.read(buf) {
             Err(error) if error.kind() == ErrorKind::Interrupted => {}
             outcome => return outcome,

@@ -1,4 +1,7 @@
 //! What is seen of a connection, for the lines about it.
+ghost use Rattle.std.specs.Prelude.{◌≡◌, IsTrue, IsSome};
+ghost use Rattle.edge_net.specs.Heading.{IsSentBy};
+
 use crate::answer::{closes, reason_in};
 use crate::authorized::Authorized;
 use crate::ending::explains;
@@ -85,7 +88,9 @@ impl<'a, R> Watch<'a, R> {
 
 impl<R> Watch<'_, R> {
     /// The head of a proxy told the sender, if it did: that is the peer from now on.
-    pub(crate) fn is_sent_by(&mut self, source: Option<Source>) {
+    pub(crate) fn is_sent_by(&mut self, source: Option<Source>)
+        ensures { IsSentBy source self.old.peer self.new.peer }
+    {
         if let (Some(Source { ip, port }), Some(Peer { conn, .. })) = (source, self.peer) {
             let address = SocketAddr::new(ip, port);
             self.peer = Some(Peer { address, conn });
@@ -96,7 +101,10 @@ impl<R> Watch<'_, R> {
 impl<R: Clock + Eprint> Watch<'_, R> {
     /// The connection is ended since it has no head of a proxy. That is said once.
     #[inline(never)]
-    pub(crate) fn is_unheaded(&mut self, why: Unheaded) {
+    pub(crate) fn is_unheaded(&mut self, why: Unheaded)
+        ensures peer { self.new.peer ≡ self.old.peer }
+        ensures said { IsSome self.old.peer → IsTrue self.new.is_said }
+    {
         let Some(peer) = self.peer else {
             return;
         };
