@@ -5,6 +5,7 @@ pub mod Ending
 pub mod Fullness
 pub mod Pace
 pub mod Page
+pub mod Proxies
 pub mod Receiver
 pub mod Recent
 pub mod Standstill
