@@ -1,12 +1,12 @@
 -- How a word is read that names proxies.
-use Rattle.std.proofs.Common.{◌≡◌, ◌≢◌, ◌∙◌, ◌+◌, ◌<◌, ◌≤◌, ◌==◌, ℕ, List, [], ◌∷◌, ◌++◌, length, get_or, map, false, inl, inr, refl, sym, ap, subst, arith, append_assoc, length-append}
-use Rattle.std.specs.Prelude.{◌⊎◌}
+use Rattle.std.proofs.Common.{◌≡◌, ◌≢◌, ◌∙◌, ◌+◌, ◌<◌, ◌≤◌, ◌==◌, ℕ, Option, None, Some, List, [], ◌∷◌, ◌++◌, length, get_or, map, true, false, inl, inr, refl, sym, ap, subst, arith, append_assoc, length-append}
+use Rattle.std.specs.Prelude.{◌⊎◌, ◌↔◌, IfSome, IsSome, MatchOption}
 use Rattle.std.specs.List.{All}
 use Rattle.std.specs.Net.Grammar.{IsIpText}
 use Rattle.std.specs.declared.net.ip_addr.IpAddr.{IpAddr}
 use Rattle.std.proofs.lemmas.List.{get_or_default, length-map, map-append}
 use Rattle.std.proofs.lemmas.List.Splits.{slice_split_at, slice_split_none}
-use Rattle.std.proofs.lemmas.Bool.{ne_eqb}
+use Rattle.std.proofs.lemmas.Bool.{cases_lt, ne_eqb}
 use Rattle.edge_net.specs.declared.proxies.Proxies.{Proxies}
 use Rattle.edge_net.specs.Proxies.{canonical, named}
 use Rattle.cli_parts.specs.ProxyWords.{AreAddresses, AreNoProxies, AreProxies, IsNoAddress, NamesNext, NamesNoNext, WriteAddresses, between_commas}
@@ -47,6 +47,19 @@ text_writes [] more text (a ∷ these) written = (a, written.0)
 text_writes (t ∷ texts) more text [] written = absurd written
 text_writes (t ∷ texts) more text (a ∷ these) written = text_writes texts more text these written.1
 
+-- ---- one address more
+
+no_room : (n : ℕ) → (n < 8 → false ≡ true) → (n < 8) ⊎ (8 ≤ n) → 8 ≤ n
+no_room n some (inl few) = let wrong : false ≡ true = some few in absurd cc
+no_room n some (inr many) = many
+
+-- the address that a text writes is named too, or eight are
+pub names_next : (old : Proxies) (text : List ℕ) (address : IpAddr) (r : Option Proxies) → IsIpText text address
+    → IfSome r (λ more. named more ≡ named old ++ canonical address ∷ []) → (IsSome r ↔ (length (named old) < 8))
+    → MatchOption r (NamesNoNext old text) (λ more. NamesNext old text more)
+names_next old text address None written next room = inr (no_room (length (named old)) room.1 (cases_lt (length (named old)) 8))
+names_next old text address (Some more) written next room = record { address = address; written = written; room = room.0 refl; named_are = next }
+
 -- ---- a word up to some place
 
 pub record Naming (word left : List ℕ) (proxies : Proxies) : Type 0 where
@@ -78,7 +91,7 @@ naming_all word left old new so_far are next = record {
   are = record {
     written = subst (λ (l : List (List ℕ)). WriteAddresses l (so_far.addresses ++ next.address ∷ [])) (sym (so_far.parts ∙ ap (λ (l : List (List ℕ)). so_far.texts ++ l) are))
         (write_more so_far.texts (left ∷ []) so_far.addresses (next.address ∷ []) so_far.written (next.written, tt));
-    few = omega (arith, next.room, ap length so_far.named_are, length-map canonical so_far.addresses, length-append so_far.addresses (next.address ∷ []));
+    few = omega (arith, next.room, ap length so_far.named_are, length-map so_far.addresses canonical, length-append so_far.addresses (next.address ∷ []));
   };
   named_are = next.named_are ∙ ap (λ (l : List IpAddr). l ++ canonical next.address ∷ []) so_far.named_are ∙ sym (map-append canonical so_far.addresses (next.address ∷ []));
 }
@@ -93,5 +106,13 @@ naming_stops word left text more proxies so_far are (inl none) = λ addresses is
 naming_stops word left text more proxies so_far are (inr full) = λ addresses is.
     let whole = so_far.parts ∙ ap (λ (l : List (List ℕ)). so_far.texts ++ l) are in
     let many = as_many (so_far.texts ++ text ∷ more) addresses (subst (λ (l : List (List ℕ)). WriteAddresses l addresses) whole is.written) in
-    absurd (omega (arith, full, is.few, many, as_many so_far.texts so_far.addresses so_far.written, ap length so_far.named_are,
-    length-map canonical so_far.addresses, length-append so_far.texts (text ∷ more)))
+    absurd (omega (
+      arith,
+      full,
+      is.few,
+      many,
+      as_many so_far.texts so_far.addresses so_far.written,
+      ap length so_far.named_are,
+      length-map so_far.addresses canonical,
+      length-append so_far.texts (text ∷ more),
+    ))

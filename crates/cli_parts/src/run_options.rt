@@ -181,7 +181,8 @@ impl Taken {
         ensures words { self.new.words ≡ self.old.words }
         ensures wrong { IfErr result (λ wrong. IsNoAddresses wrong name.now self.old.options value.now) }
     {
-        if name != "serve" {
+        let is_serving = name == "serve";
+        if !is_serving {
             return Err(WrongOption::ProxyElsewhere);
         }
         if self.options.proxies.is_some() {
