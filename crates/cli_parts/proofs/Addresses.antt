@@ -1,12 +1,12 @@
 -- How a word is read that names proxies.
-use Rattle.std.proofs.Common.{◌≡◌, ◌≢◌, ◌∙◌, ◌+◌, ◌<◌, ◌≤◌, ◌==◌, ℕ, Option, None, Some, List, [], ◌∷◌, ◌++◌, length, get_or, map, true, false, inl, inr, refl, sym, ap, subst, arith, append_assoc, length-append}
-use Rattle.std.specs.Prelude.{◌⊎◌, ◌↔◌, IfSome, IsSome, MatchOption}
+use Rattle.std.proofs.Common.{◌≡◌, ◌≢◌, ◌∙◌, ◌+◌, ◌<◌, ◌≤◌, ◌==◌, ℕ, suc, Option, None, Some, List, [], ◌∷◌, ◌++◌, length, get_or, map, false, inl, inr, refl, sym, ap, subst, arith, append_assoc, length-append}
+use Rattle.std.specs.Prelude.{MatchOption}
 use Rattle.std.specs.List.{All}
 use Rattle.std.specs.Net.Grammar.{IsIpText}
 use Rattle.std.specs.declared.net.ip_addr.IpAddr.{IpAddr}
 use Rattle.std.proofs.lemmas.List.{get_or_default, length-map, map-append}
 use Rattle.std.proofs.lemmas.List.Splits.{slice_split_at, slice_split_none}
-use Rattle.std.proofs.lemmas.Bool.{cases_lt, ne_eqb}
+use Rattle.std.proofs.lemmas.Bool.{ne_eqb}
 use Rattle.edge_net.specs.declared.proxies.Proxies.{Proxies}
 use Rattle.edge_net.specs.Proxies.{canonical, named}
 use Rattle.cli_parts.specs.ProxyWords.{AreAddresses, AreNoProxies, AreProxies, IsNoAddress, NamesNext, NamesNoNext, WriteAddresses, between_commas}
@@ -37,7 +37,7 @@ as_many : (texts : List (List ℕ)) (these : List IpAddr) → WriteAddresses tex
 as_many [] [] written = refl
 as_many [] (a ∷ these) written = absurd written
 as_many (t ∷ texts) [] written = absurd written
-as_many (t ∷ texts) (a ∷ these) written = ap (λ (n : ℕ). n + 1) (as_many texts these written.1)
+as_many (t ∷ texts) (a ∷ these) written = ap suc (as_many texts these written.1)
 
 -- each of the texts writes one
 text_writes : (texts more : List (List ℕ)) (text : List ℕ) (these : List IpAddr) → WriteAddresses (texts ++ text ∷ more) these
@@ -46,19 +46,6 @@ text_writes [] more text [] written = absurd written
 text_writes [] more text (a ∷ these) written = (a, written.0)
 text_writes (t ∷ texts) more text [] written = absurd written
 text_writes (t ∷ texts) more text (a ∷ these) written = text_writes texts more text these written.1
-
--- ---- one address more
-
-no_room : (n : ℕ) → (n < 8 → false ≡ true) → (n < 8) ⊎ (8 ≤ n) → 8 ≤ n
-no_room n some (inl few) = let wrong : false ≡ true = some few in absurd cc
-no_room n some (inr many) = many
-
--- the address that a text writes is named too, or eight are
-pub names_next : (old : Proxies) (text : List ℕ) (address : IpAddr) (r : Option Proxies) → IsIpText text address
-    → IfSome r (λ more. named more ≡ named old ++ canonical address ∷ []) → (IsSome r ↔ (length (named old) < 8))
-    → MatchOption r (NamesNoNext old text) (λ more. NamesNext old text more)
-names_next old text address None written next room = inr (no_room (length (named old)) room.1 (cases_lt (length (named old)) 8))
-names_next old text address (Some more) written next room = record { address = address; written = written; room = room.0 refl; named_are = next }
 
 -- ---- a word up to some place
 
@@ -116,3 +103,9 @@ naming_stops word left text more proxies so_far are (inr full) = λ addresses is
       length-map so_far.addresses canonical,
       length-append so_far.texts (text ∷ more),
     ))
+
+-- all of it
+pub naming_ends : (word left : List ℕ) (proxies : Proxies) (r : Option Proxies) → Naming word left proxies → between_commas left ≡ left ∷ []
+    → MatchOption r (NamesNoNext proxies left) (λ more. NamesNext proxies left more) → MatchOption r (AreNoProxies word) (λ all. AreProxies word all)
+naming_ends word left proxies None so_far are next = naming_stops word left left [] proxies so_far are next
+naming_ends word left proxies (Some new) so_far are next = naming_all word left proxies new so_far are next

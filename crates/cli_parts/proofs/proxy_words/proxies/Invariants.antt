@@ -1,10 +1,12 @@
 use Rattle.std.proofs.Common.{length}
+use denote.Text.{Utf8}
+use denote.Shadow.{shadow}
 use Rattle.cli_parts.proofs.Addresses.{Naming}
 use Rattle.cli_parts.proofs.proxy_words.proxies.Given as goal
 
--- the texts before the ones that are left were read
-abbrev pub invariant-loop-left : goal.invariant-loop-left
-invariant-loop-left l = Naming l.word l.left l.named
+-- the texts before those that are left were read
+abbrev pub invariant-loop-first : goal.invariant-loop-first
+invariant-loop-first l = shadow (Utf8 l.left) × Naming l.word l.left l.named
 
-abbrev pub decreases-loop-left : goal.decreases-loop-left
-decreases-loop-left l = length l.left
+abbrev pub decreases-loop-first : goal.decreases-loop-first
+decreases-loop-first l = length l.left
