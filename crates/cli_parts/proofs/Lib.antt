@@ -1,4 +1,5 @@
 pub mod Listing
+mod Addresses
 mod Counted
 mod Options
 mod Rescuing

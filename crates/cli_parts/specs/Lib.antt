@@ -4,6 +4,7 @@ pub mod Help
 pub mod Near
 pub mod Opening
 pub mod Piece
+pub mod ProxyWords
 pub mod RescueWords
 pub mod RestoreWords
 pub mod RestoreParts

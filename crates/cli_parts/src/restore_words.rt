@@ -81,7 +81,7 @@ struct Said<'a> {
 impl<'a> Said<'a> {
     // A word that is no option more, of which there are two at most.
     fn with_place(self, word: &'a str) -> Option<Said<'a>>
-        ensures { IfSome result (SaysPlace self word.now) }
+        ensures { IfSome result (SaysPlace self.entry word.now) }
     {
         let Said { target, tag, .. } = self;
         match (self.slots, self.size) {
@@ -103,7 +103,7 @@ impl<'a> Said<'a> {
 
     // TARGET, which is given once.
     fn with_target(self, value: &'a str) -> Option<Said<'a>>
-        ensures { IfSome result (SaysTarget self value.now) }
+        ensures { IfSome result (SaysTarget self.entry value.now) }
     {
         match self.target {
             None => Some(Said {
@@ -116,7 +116,7 @@ impl<'a> Said<'a> {
 
     // TAG, which is given once.
     fn with_tag(self, value: &'a str) -> Option<Said<'a>>
-        ensures { IfSome result (SaysTag self value.now) }
+        ensures { IfSome result (SaysTag self.entry value.now) }
     {
         match self.tag {
             None => Some(Said {
@@ -129,7 +129,7 @@ impl<'a> Said<'a> {
 
     // What is said once the next word is read, with the one after it where that is its value, and the words after these.
     fn read(self, word: &'a str, more: &'a [String]) -> Option<(Said<'a>, &'a [String])>
-        ensures read { IfSome result (λ next. IsNextSaid (word.now ∷ map string_bytes more.now) (map string_bytes next.1.now) self next.0) }
+        ensures read { IfSome result (λ next. IsNextSaid (word.now ∷ map string_bytes more.now) (map string_bytes next.1.now) self.entry next.0) }
         ensures shorter { IfSome result (λ next. length next.1.now ≤ length more.now) }
     {
         match part_of(word) {
@@ -192,7 +192,7 @@ impl<'a> Said<'a> {
 
 // The layout of SLOTS and SIZE, where they are given: both or none.
 fn layout_in(slots: Option<&str>, size: Option<&str>) -> Option<Option<Layout>>
-    ensures { IfSome result (λ layout. IsLayoutIn layout (places_in slots size)) }
+    ensures { IfSome result (λ layout. IsLayoutIn layout (places_in slots.entry size.entry)) }
 {
     match (slots, size) {
         (None, _) => Some(None),
@@ -220,7 +220,7 @@ fn tag_in(word: &str) -> Option<u32>
 
 // What is asked for by what the words say.
 fn asked_by(said: Said<'_>) -> Option<RestoreWords<'_>>
-    ensures { IfSome result (AsksFor said) }
+    ensures { IfSome result (AsksFor said.entry) }
 {
     let (Some(target), Some(word)) = (said.target, said.tag) else {
         return None;

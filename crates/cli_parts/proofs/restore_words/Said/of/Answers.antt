@@ -16,5 +16,5 @@ loop-left-preserved c =
 -- all words
 pub returns : goal.returns
 returns c =
-    let few : length c.loop-left.left.now < 1 = omega (arith, c.in_default-left.len_below) in
+    let few : length c.loop-left.left.now < 1 = omega (arith, c.in_default.len_below) in
     said_all _ _ _ c.loop-left.invariant (none_of (string_bytes {Z = Global}) c.loop-left.left.now few)

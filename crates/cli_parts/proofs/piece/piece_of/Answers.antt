@@ -1,7 +1,7 @@
 use Rattle.std.proofs.Common.{Some, arith}
 use Rattle.std.proofs.lemmas.Str.Pattern.{split_parts}
 use Rattle.cli_parts.proofs.Options.{valued}
-use Rattle.cli_parts.proofs.run_options.piece_of.Goals as goal
+use Rattle.cli_parts.proofs.piece.piece_of.Goals as goal
 
 -- an option without a value, with one
 pub returns-in-Some-flag_of : goal.returns-in-Some-flag_of
