@@ -5,7 +5,9 @@ use Rattle.std.proofs.lemmas.List.{take_more_set, length-take-le, append-nil}
 use Rattle.proxy_head.specs.declared.limits.TheConstants.{LINE}
 use Rattle.proxy_head.specs.declared.fault.HeadFault.{HeadFault}
 use Rattle.proxy_head.specs.declared.head.Head.{Head}
-use Rattle.proxy_head.specs.Head.{IsBeginning, HasHead, IsFault}
+use Rattle.proxy_head.specs.declared.head.Reading.{Reading}
+use Rattle.proxy_head.specs.declared.head.Reading.TheVariants.{Whole as WholeHead}
+use Rattle.proxy_head.specs.Head.{IsBeginning, Reads, IsFault}
 use Rattle.proxy_head.proofs.Beginnings.{begins_front}
 use Rattle.proxy_head.proofs.SignLaws.{line_itself}
 use Rattle.edge_net.specs.declared.heading.Headed.TheVariants.{Whole, Not}
@@ -64,9 +66,9 @@ pub some_came : (bytes : List ℕ) (count : ℕ) → count < length bytes → 0 
 some_came bytes count inside some none = absurd (omega (arith, length-take-le count bytes (omega arith), ap length none))
 
 -- the bytes that were read are a head
-pub whole_head : (a b c : Option (List ℕ)) (bytes : List ℕ) (count byte : ℕ) (xs : List ℕ) (head : Head) → count < length bytes → Consumes a b (take count bytes) → Consumes b c (byte ∷ []) → IsBeginning (take count bytes) → HasHead xs head → xs ≡ take (count + 1) (set bytes count byte) → TakesHead a c (Whole head.source)
-whole_head a b c bytes count byte xs head inside taken one few has same =
-    (xs, subst (λ t. Consumes a c t) (sym same) (one_more a b c bytes count byte inside taken one), (head, has, refl, subst IsJustRead (sym same) (just_read bytes count byte inside few)))
+pub whole_head : (a b c : Option (List ℕ)) (bytes : List ℕ) (count byte : ℕ) (xs : List ℕ) (reading : Reading) (head : Head) → count < length bytes → Consumes a b (take count bytes) → Consumes b c (byte ∷ []) → IsBeginning (take count bytes) → Reads xs (Ok reading) → reading ≡ WholeHead head → xs ≡ take (count + 1) (set bytes count byte) → TakesHead a c (Whole head.source)
+whole_head a b c bytes count byte xs reading head inside taken one few reads has same =
+    (xs, subst (λ t. Consumes a c t) (sym same) (one_more a b c bytes count byte inside taken one), (head, subst (λ r. Reads xs (Ok r)) has reads, refl, subst IsJustRead (sym same) (just_read bytes count byte inside few)))
 
 -- they are none
 pub no_head : (a b c : Option (List ℕ)) (bytes : List ℕ) (count byte : ℕ) (xs : List ℕ) (fault : HeadFault) → count < length bytes → Consumes a b (take count bytes) → Consumes b c (byte ∷ []) → IsBeginning (take count bytes) → IsFault xs fault → xs ≡ take (count + 1) (set bytes count byte) → TakesHead a c (Not (Wrong fault))

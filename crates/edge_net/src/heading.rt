@@ -88,9 +88,20 @@ pub(crate) fn read_head<S: Read>(
 ) -> io::Result<Headed>
     ensures { IfOk result (λ headed. TakesHead (S.remaining stream.old) (S.remaining stream.new) headed) }
 {
+    read_within(rt, stream, wait, &mut [0; MOST_HEAD])
+}
+
+// The same by way of these bytes, of which the head has no more.
+fn read_within<S: Read>(
+    rt: &impl Clock,
+    stream: &mut S,
+    wait: Duration,
+    bytes: &mut [u8],
+) -> io::Result<Headed>
+    ensures { IfOk result (λ headed. TakesHead (S.remaining stream.old) (S.remaining stream.new) headed) }
+{
     let began = millis(rt).unwrap_or(0);
-    let mut bytes = [0; MOST_HEAD];
-    for count in 0..MOST_HEAD {
+    for count in 0..bytes.len() {
         let Some(byte) = next_byte(stream)? else {
             return Ok(match count {
                 0 => Headed::Empty,
