@@ -1,5 +1,5 @@
 -- How a file is open that is a disk.
-use Rattle.std.specs.Prelude.{◌≡◌, ⊥}
+use Rattle.std.specs.Prelude.{◌≡◌}
 use Rattle.edge_file.specs.declared.file.FileDisk.{FileDisk}
 use Rattle.edge_file.specs.declared.open_fault.Sharing.{Sharing}
 use Rattle.edge_file.specs.declared.unlocked.Access.{Access}

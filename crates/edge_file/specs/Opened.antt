@@ -1,5 +1,5 @@
 -- How a file is held that was opened: for what, and with whom it is shared.
-use Rattle.std.specs.Prelude.{◌≡◌, ⊥}
+use Rattle.std.specs.Prelude.{◌≡◌}
 use Rattle.edge_file.specs.declared.open_fault.Sharing.{Sharing}
 use Rattle.edge_file.specs.declared.opening.Opened.{Opened}
 use Rattle.edge_file.specs.declared.unlocked.Access.{Access}

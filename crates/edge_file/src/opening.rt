@@ -127,64 +127,65 @@ fn settle(file: &File) -> Result<(), OpenFault> {
     Ok(())
 }
 
-// A file that was opened by this path and is to be locked, shared so.
+// A file that is open, and is to be locked, shared so.
 #[derive(Drop)]
-struct Wanted<'a> {
-    path: &'a str,
+struct Wanted {
     unlocked: Unlocked,
     sharing: Sharing,
 }
 
-impl Wanted<'_> {
-    fn hold(self, rt: &HostRuntime) -> Result<Opened, OpenFault>
+impl Wanted {
+    // Locks the file, which was opened by this path.
+    fn hold(self, rt: &HostRuntime, path: &str) -> Result<Opened, OpenFault>
         ensures { IfOk result (IsHeld self.unlocked self.sharing) }
     {
-        hold_settled(rt, self.path, self.unlocked, self.sharing)
+        hold_settled(rt, path, self.unlocked, self.sharing)
     }
 }
 
-// Locks two files, unless they are one. Which of them is locked first depends on the files alone, and not on which is named first.
+// Locks two files, which were opened by these paths, unless they are one. Which of them is locked first depends on the files alone, and not on
+// which is named first.
 fn hold_two(
     rt: &HostRuntime,
-    first: Wanted<'_>,
-    second: Wanted<'_>,
+    paths: [&str; 2],
+    one: Wanted,
+    other: Wanted,
 ) -> Result<(Opened, Opened), PairFault>
-    ensures first { IfOk result (λ two. IsHeld first.unlocked first.sharing two.0) }
-    ensures second { IfOk result (λ two. IsHeld second.unlocked second.sharing two.1) }
+    ensures first { IfOk result (λ two. IsHeld one.unlocked one.sharing two.0) }
+    ensures second { IfOk result (λ two. IsHeld other.unlocked other.sharing two.1) }
     ensures two { IfOk result (λ two. AreTwo two.0 two.1) }
 {
-    if first.unlocked.id == second.unlocked.id {
+    let [first, second] = paths;
+    if one.unlocked.id == other.unlocked.id {
         return Err(PairFault::OneFile);
     }
-    if first.unlocked.id < second.unlocked.id {
-        let one = first.hold(rt).map_err(PairFault::First)?;
-        let other = second.hold(rt).map_err(PairFault::Second)?;
+    if one.unlocked.id < other.unlocked.id {
+        let one = one.hold(rt, first).map_err(PairFault::First)?;
+        let other = other.hold(rt, second).map_err(PairFault::Second)?;
         return Ok((one, other));
     }
-    let other = second.hold(rt).map_err(PairFault::Second)?;
-    let one = first.hold(rt).map_err(PairFault::First)?;
+    let other = other.hold(rt, second).map_err(PairFault::Second)?;
+    let one = one.hold(rt, first).map_err(PairFault::First)?;
     Ok((one, other))
 }
 
 // A file that exists, opened to be read and written by this program alone, and not locked yet.
-fn wanted_alone<'a>(rt: &HostRuntime, path: &'a str) -> Result<Wanted<'a>, OpenFault>
+fn wanted_alone(rt: &HostRuntime, path: &str) -> Result<Wanted, OpenFault>
     ensures { IfOk result (λ wanted. (wanted.unlocked.access ≡ ToWrite) × (wanted.sharing ≡ Exclusive)) }
 {
     let unlocked = Unlocked::open(rt, path, Access::ToWrite, false)?;
     Ok(Wanted {
-        path,
         unlocked,
         sharing: Sharing::Exclusive,
     })
 }
 
 // A file that exists, opened to be read alone, beside others that share it, and not locked yet.
-fn wanted_to_read<'a>(rt: &HostRuntime, path: &'a str) -> Result<Wanted<'a>, OpenFault>
+fn wanted_to_read(rt: &HostRuntime, path: &str) -> Result<Wanted, OpenFault>
     ensures { IfOk result (λ wanted. (wanted.unlocked.access ≡ ToRead) × (wanted.sharing ≡ Shared)) }
 {
     let unlocked = Unlocked::open_to_read(rt, path)?;
     Ok(Wanted {
-        path,
         unlocked,
         sharing: Sharing::Shared,
     })
@@ -202,7 +203,7 @@ pub(crate) fn open_two(
 {
     let one = wanted_alone(rt, first).map_err(PairFault::First)?;
     let other = wanted_alone(rt, second).map_err(PairFault::Second)?;
-    hold_two(rt, one, other)
+    hold_two(rt, [first, second], one, other)
 }
 
 /// Two files that exist: the first opened to be read alone and locked beside others that share it, and the second to be read and written,
@@ -216,9 +217,9 @@ pub(crate) fn open_beside(
     ensures second { IfOk result (λ two. IsHeldAs ToWrite Exclusive two.1) }
     ensures two { IfOk result (λ two. AreTwo two.0 two.1) }
 {
-    let one = wanted_to_read(rt, first).map_err(PairFault::First)?;
-    let other = wanted_alone(rt, second).map_err(PairFault::Second)?;
-    hold_two(rt, one, other)
+    let read = wanted_to_read(rt, first).map_err(PairFault::First)?;
+    let written = wanted_alone(rt, second).map_err(PairFault::Second)?;
+    hold_two(rt, [first, second], read, written)
 }
 
 // The length in bytes of a file or a block device, whose metadata has none. Anything else, as a pipe, has no length.
