@@ -66,8 +66,9 @@ pub fn run_restore<F: Files>(
     requires tears { LetsKeep F.D.tells F.D.moment F.D.may_tear F.D.may_release }
 
     ensures known { IsRestoreNote (note_in result) }
-    ensures done { IsUnopened (note_in result) (Unit {0}) ⊎ OverBoth (F.opened file.now) (F.opened words.target.now) (λ old new. (report : Option Report) × (stored : ℕ)
-        × IsRestoreRun words.layout words.tag (disk_run F.D.tells F.D.moment old.0 new.0) (disk_run F.D.tells F.D.moment old.1 new.1) report stored (note_in result)) }
+    ensures done { IsUnopened (note_in result) (Unit {0}) ⊎ OverBoth (F.opened file.now) (F.opened words.entry.target.now) (λ old new.
+        (report : Option Report) × (stored : ℕ) × IsRestoreRun words.entry.layout words.entry.tag (disk_run F.D.tells F.D.moment old.0 new.0)
+        (disk_run F.D.tells F.D.moment old.1 new.1) report stored (note_in result)) }
 {
     let RestoreWords {
         layout,
