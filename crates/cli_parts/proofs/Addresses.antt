@@ -1,5 +1,5 @@
 -- How a word is read that names proxies.
-use Rattle.std.proofs.Common.{◌≡◌, ◌≢◌, ◌∙◌, ◌+◌, ◌<◌, ◌≤◌, ◌==◌, ℕ, suc, Option, None, Some, List, [], ◌∷◌, ◌++◌, length, get_or, map, false, inl, inr, refl, sym, ap, subst, arith, append_assoc, length-append}
+use Rattle.std.proofs.Common.{◌≡◌, ◌≢◌, ◌∙◌, ◌<◌, ◌==◌, ℕ, suc, Option, None, Some, List, [], ◌∷◌, ◌++◌, length, get_or, map, false, inl, inr, refl, sym, ap, subst, arith, append_assoc, length-append}
 use Rattle.std.specs.Prelude.{MatchOption}
 use Rattle.std.specs.List.{All}
 use Rattle.std.specs.Net.Grammar.{IsIpText}
@@ -9,7 +9,7 @@ use Rattle.std.proofs.lemmas.List.Splits.{slice_split_at, slice_split_none}
 use Rattle.std.proofs.lemmas.Bool.{ne_eqb}
 use Rattle.edge_net.specs.declared.proxies.Proxies.{Proxies}
 use Rattle.edge_net.specs.Proxies.{canonical, named}
-use Rattle.cli_parts.specs.ProxyWords.{AreAddresses, AreNoProxies, AreProxies, IsNoAddress, NamesNext, NamesNoNext, WriteAddresses, between_commas}
+use Rattle.cli_parts.specs.ProxyWords.{AreNoProxies, AreProxies, NamesNext, NamesNoNext, WriteAddresses, between_commas}
 
 -- ---- the texts between the commas
 

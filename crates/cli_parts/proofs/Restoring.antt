@@ -5,7 +5,7 @@ use Rattle.std.proofs.lemmas.List.{append-nil}
 use Rattle.cli_parts.specs.declared.restore_words.Said.{Said}
 use Rattle.cli_parts.specs.declared.restore_words.RestoreWords.{RestoreWords}
 use Rattle.cli_parts.specs.RunOptions.{Text, option_name}
-use Rattle.cli_parts.specs.RestoreWords.{IsOption, IsPlace, Says, nothing, place, target, tag, IsRestore}
+use Rattle.cli_parts.specs.RestoreWords.{IsOption, IsPlace, Says, place, target, tag, IsRestore}
 use Rattle.cli_parts.specs.RestoreParts.{text_in, places_in, SaysPlace, SaysTarget, SaysTag, SaysThese, IsNextSaid, ReadsSaid, AsksFor}
 
 -- ---- one word, or an option with its value

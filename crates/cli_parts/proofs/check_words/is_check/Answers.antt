@@ -15,5 +15,5 @@ returns-in-len1 c =
     let same = bytes_eq-Decides name (codes "check") in
     let checks : IsTrue c.eq.result → texts ≡ codes "check" ∷ [] = λ eq. is ∙ ap (λ (t : Text). t ∷ []) (same.0 (sym c.eq.ensures ∙ eq)) in
     let is_one : texts ≡ codes "check" ∷ [] → IsTrue c.eq.result =
-        λ (are : texts ≡ codes "check" ∷ []). c.eq.ensures ∙ same.1 (ap (λ (l : List Text). get_or l 0 name) (sym is ∙ are)) in
+    λ (are : texts ≡ codes "check" ∷ []). c.eq.ensures ∙ same.1 (ap (λ (l : List Text). get_or l 0 name) (sym is ∙ are)) in
     (checks, is_one)
