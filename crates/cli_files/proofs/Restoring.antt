@@ -1,16 +1,13 @@
 -- A rescue from one disk into another, each of which another one holds.
 use Rattle.std.proofs.Common.{◌≡◌, ℕ, List, inl, inr, ap}
-use Rattle.std.specs.Prelude.{Option, None, Some, Result}
-use Rattle.event_form.specs.declared.event.Entry.{Entry}
+use Rattle.std.specs.Prelude.{Option, None, Some}
 use Rattle.edge_disk.specs.Disk.{Moment}
 use Rattle.spool_state.specs.SpoolState.{OpenSlot}
-use Rattle.spool_log.specs.State.{View}
 use Rattle.notes.specs.declared.note.Note.{Note}
 use Rattle.bridge_parts.specs.Run.{DiskRun, disk_run}
 use Rattle.bridge_rescue.specs.declared.layout.Layout.{Layout}
 use Rattle.bridge_rescue.specs.declared.rescued.Report.{Report}
-use Rattle.bridge_restore.specs.declared.fault.StoreFault.{StoreFault}
-use Rattle.bridge_restore.specs.Into.{StoresFrom, GoesInto}
+use Rattle.bridge_restore.specs.Into.{GoesInto}
 use Rattle.bridge_restore.specs.RestoreRun.{Restores, IsRestoreRun}
 
 abbrev run_as : Type 0 → Moment → Moment → Type 0 → DiskRun
@@ -19,21 +16,6 @@ run_as tells old new same = record { tells = tells; old = old; new = new; same =
 -- ---- of which value the other disk is nothing is said, but where it was left alone
 
 module _ (tells : Type 0) (old new : Moment) (same other : Type 0) where
-  from_as : (entries : List Entry) (tag : ℕ) (result : Result (Unit {0}) StoreFault) (shown : View) (count : ℕ) → StoresFrom entries tag (run_as tells old new same) result shown count
-      → StoresFrom entries tag (run_as tells old new other) result shown count
-  from_as entries tag result shown count f = record {
-    u = f.u;
-    stood = f.stood;
-    front = f.front;
-    rest = f.rest;
-    parts = f.parts;
-    t = f.t;
-    taken = f.taken;
-    count_is = f.count_is;
-    ends = f.ends;
-    any_moment = f.any_moment;
-  }
-
   goes_as : (tag : ℕ) (found : List OpenSlot) (why : Option Note) (count : ℕ) → GoesInto tag found (run_as tells old new same) why count
       → GoesInto tag found (run_as tells old new other) why count
   goes_as tag found why count (inl un) = inl (
@@ -45,7 +27,20 @@ module _ (tells : Type 0) (old new : Moment) (same other : Type 0) where
     memory = did.memory;
     doubt = did.doubt;
     why_is = did.why_is;
-    stores = λ told. from_as _ tag did.result _ count (did.stores told);
+    stores = λ told.
+        let f = did.stores told in
+        record {
+          u = f.u;
+          stood = f.stood;
+          front = f.front;
+          rest = f.rest;
+          parts = f.parts;
+          t = f.t;
+          taken = f.taken;
+          count_is = f.count_is;
+          ends = f.ends;
+          any_moment = f.any_moment;
+        };
   })
 
   restores_as : (given : Option Layout) (tag : ℕ) (c : List ℕ) (report : Option Report) (stored : ℕ) (note : Note) → Restores given tag c report (run_as tells old new same) stored note
