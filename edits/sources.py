@@ -26,17 +26,28 @@ GHOST_IMPORT = re.compile(r"\bghost use (?P<path>[^;{ ]+?)(?:\.\{(?P<names>[^;]*
 # What is said of a proof.
 TACTIC = re.compile(r"#!?\[tactic\b[^\]]*\]")
 PUBLIC = re.compile(r"\bpub\b(?!\s*\()")
+# What a file of definitions declares: a definition, a record, or a field of one.
+DECLARED = re.compile(
+    r"^[ \t]*(?:(?:pub|abbrev|record|data|opaque|unfoldable)\s+)*([^\s:(){},=]+)(?:\s[^:=\n]*)?\s*:(?=\s)", re.MULTILINE
+)
 
 
 @dataclass
 class Function:
-    """A function of a file: the names of the modules and the type that hold it, and where its parts lie in the text."""
+    """A function of a file: the names of the modules and the type that hold it, where its parts lie in the text, and the head of the
+    innermost block that holds it, as `impl Sink for File`, or ''."""
 
     path: tuple
     begin: int
     body: int
     end: int
     is_stated: bool
+    block: str
+
+    @property
+    def is_of_trait(self):
+        """Whether it stands in a trait's impl, where the trait's clauses speak of it."""
+        return self.block.startswith("impl") and name_of_impl(self.block.removeprefix("impl"))[1]
 
 
 def without_comments(text):
@@ -126,11 +137,12 @@ def functions_of(text, path=()):
         if head:
             body, end = parts_of_function(text, head.end())
             before = HEAD.search(text, at, head.start())[0]
-            owners = tuple(name for _, name, _ in blocks if name)
-            is_stated = bool(PUBLIC.search(before)) or any(states for _, _, states in blocks)
+            owners = tuple(name for _, name, _, _ in blocks if name)
+            is_stated = bool(PUBLIC.search(before)) or any(states for _, _, states, _ in blocks)
             # (a constant may be made by such a function's body)
             keeps = re.search(r"\bconst\s+(?:unsafe\s+)?\Z", before)
-            found.append(Function((*path, *owners, head["name"]), head.start() - len(before), end if keeps else body, end, is_stated))
+            within = blocks[-1][3] if blocks else ""
+            found.append(Function((*path, *owners, head["name"]), head.start() - len(before), end if keeps else body, end, is_stated, within))
             at = end
         elif sign == "{":
             block = BLOCK.search(text, at, place)
@@ -139,7 +151,7 @@ def functions_of(text, path=()):
                 continue
             named = block["trait"] or block["mod"]
             name, states = (named, bool(block["trait"])) if named else name_of_impl(block["impl"])
-            blocks.append((place, name, states))
+            blocks.append((place, name, states, squeezed(block[0])))
             at = place + 1
         elif sign == "}":
             blocks = blocks[:-1]

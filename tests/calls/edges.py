@@ -124,7 +124,7 @@ def shrunk(check, program, library, folder):
 
 def groups(check, program, library, folder):
     """Three frames of RELP that one read brings, with `--group`: four calls of FILE, then one answer for all. Without it four calls and
-    an answer for each. A read asks for 8,192 bytes as long as none is full. Where one of the four calls fails, none of the three is
+    an answer for each. A read asks for 1,024 bytes as long as none is full. Where one of the four calls fails, none of the three is
     answered, and all or none of them stand in the spool, which the next connection stores them in again."""
     texts = [text_of("relp", number) for number in range(3)]
     four = ["write", "sync", "write", "sync"]
@@ -140,7 +140,7 @@ def groups(check, program, library, folder):
         after = [call.kind for call in calls[came + 1 :] if call.kind != "recv"]
         check(f"{name}: the calls", after == [*four, "send"] * times, after)
         reads = {call.asked for call in calls[: came + 1] if call.kind == "recv"}
-        check(f"{name}: how much a read asks for", reads == {8192}, reads)
+        check(f"{name}: how much a read asks for", reads == {1024}, reads)
     for place, kind in enumerate(four):
         name = f"a run of frames whose {kind} {place // 2 + 1} fails"
         server, seen = start(program, library, folder, words=("--workers", "1", "--group"))

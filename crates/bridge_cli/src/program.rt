@@ -1,15 +1,17 @@
 //! The program over its streams.
+ghost use Rattle.std.specs.Prelude.{ℕ, List};
+
 use crate::device::run_words;
 use bridge_parts::net_note;
 use bridge_words::Command;
-use cli_files::{SystemFiles, run_rescue, run_skip};
+use cli_files::{SystemFiles, run_check, run_rescue, run_restore, run_skip};
 use cli_parts::{
-    Arguments, Ending, Host, NoArguments, RunOptions, Shown, StandardError, Taken, Told, Untaken,
-    WithTokens, answer, confirm, hold_streams, keep_freed, print_beside_usage,
+    Arguments, Ending, Host, NoArguments, Reader, RunOptions, Shown, StandardError, Taken, Told,
+    Untaken, WithTokens, answer, confirm, hold_streams, is_check, keep_freed, print_beside_usage,
     print_beside_wrong_option, print_ending, print_error, print_note, print_start, rescue_of,
-    skip_of, take_options, version_day, with_bytes, with_tokens,
+    restore_of, skip_of, take_options, version_day, with_bytes, with_tokens, words_of_list,
 };
-use edge_io::FileIo;
+use edge_io::{FileIo, Sink};
 use edge_net::{Manager, Reports, TcpNet, TokenFile, Waits};
 use notes::Note;
 use std::fs::OpenOptions;
@@ -17,7 +19,8 @@ use std::io::{self, IsTerminal};
 use std::sync::{Arc, Wait};
 use std::thread::Threads;
 
-// What is said of the net, whose senders may have tokens of a file, and how much memory its connections may take, as the options have it.
+// What is said of the net, whose senders may have tokens of a file, how much memory its connections may take, and through which
+// proxies they come, as the options have it.
 fn reports_of(options: RunOptions, tokens: Option<TokenFile>) -> Reports {
     let reports = if options.is_quiet {
         Reports::quiet()
@@ -28,6 +31,10 @@ fn reports_of(options: RunOptions, tokens: Option<TokenFile>) -> Reports {
         .of_version(version_day())
         .with_verbose(options.is_verbose)
         .with_tokens(tokens);
+    let reports = match options.proxies {
+        Some(proxies) => reports.with_proxies(proxies),
+        None => reports,
+    };
     match options.memory {
         Some(bytes) => reports.with_memory(bytes),
         None => reports,
@@ -91,6 +98,34 @@ fn listen_first(
     Ok(())
 }
 
+// Who reads standard output: what events have is not shown to a terminal as it is, and a check prints none.
+fn reader_of(rt: &HostRuntime, arguments: &Arguments) -> Reader {
+    if is_check(&arguments.words) {
+        Reader::Nobody
+    } else if asks_for(arguments, "list") && rt.stdout().is_terminal() {
+        Reader::Terminal
+    } else {
+        Reader::Program
+    }
+}
+
+// Checks the slots of FILE. Where all are sound, the words are those by which the check goes on; else it ends so.
+fn check_slots<K: Sink>(
+    host: Host<'_>,
+    files: &SystemFiles<'_>,
+    file: &str,
+    nowhere: &mut K,
+) -> Result<Vec<String>, Ending>
+    requires prints { (k : K) (text : List ℕ) → K.permits k text }
+{
+    match run_check(host, files, file, nowhere) {
+        Ending::Noted(Note::Fine) => {
+            words_of_list(host.rt.alloc()).map_err(|_| Ending::Noted(Note::NoMemory))
+        }
+        ending => Err(ending),
+    }
+}
+
 // Does what the arguments say, over standard input, standard output and the sockets of the system; but a `format` that its user takes back
 // does nothing.
 fn run_arguments<R: Threads + Wait + Sync>(
@@ -106,8 +141,8 @@ fn run_arguments<R: Threads + Wait + Sync>(
         return ending;
     }
     let mut input = FileIo::of(rt.reader());
-    let is_terminal = asks_for(arguments, "list") && rt.stdout().is_terminal();
-    let mut output = FileIo::of(Shown::over(rt.alloc(), io::writer(rt), is_terminal));
+    let reader = reader_of(rt, arguments);
+    let mut output = FileIo::of(Shown::over(rt.alloc(), io::writer(rt), reader));
     let files = SystemFiles::new(rt);
     if let Some(number) = skip_of(&arguments.words) {
         return run_skip(host, &files, &arguments.file, number, &mut output);
@@ -115,6 +150,16 @@ fn run_arguments<R: Threads + Wait + Sync>(
     if let Some(rescue) = rescue_of(&arguments.words) {
         return run_rescue(host, &files, &arguments.file, rescue.layout, &mut output);
     }
+    if let Some(restore) = restore_of(&arguments.words) {
+        return run_restore(host, &files, &arguments.file, restore);
+    }
+    let listed = match is_check(&arguments.words) {
+        true => match check_slots(host, &files, &arguments.file, &mut output) {
+            Ok(words) => Some(words),
+            Err(ending) => return ending,
+        },
+        false => None,
+    };
     let reports = reports_of(options, tokens);
     let told = Told {
         file: reports.file(),
@@ -124,17 +169,24 @@ fn run_arguments<R: Threads + Wait + Sync>(
     if let Err(ending) = listen_first(rt, arguments, &mut net) {
         return ending;
     }
-    run_words(
+    let ending = run_words(
         host,
         threads,
         &files,
         &arguments.file,
-        &arguments.words,
+        match &listed {
+            Some(words) => words,
+            None => &arguments.words,
+        },
         told,
         &mut input,
         &mut output,
         &mut net,
-    )
+    );
+    if let (Some(_), Ending::Noted(note)) = (&listed, ending) {
+        print_note(&(host, rt.alloc()), note);
+    }
+    ending
 }
 
 // The same, and says on standard error what isn't well. A server has its lines written by a thread, and waits for that in the end.

@@ -94,7 +94,7 @@ fn gap_note(gaps: &[Span]) -> Note
 /// The note where all entries were printed that were found, these slots are at fault, and these numbers are missing between what was
 /// found: `DiskFault` where one was not read; else `NotSpool`, with the offset of the first fault, or that of the slots where numbers are
 /// missing and none is at fault; `Fine` where all is well.
-pub(crate) fn verdict(faults: &[SlotFault], gaps: &[Span]) -> Note
+pub fn verdict(faults: &[SlotFault], gaps: &[Span]) -> Note
     ensures { IsVerdict faults.now gaps.now result }
 {
     if has_unread(faults) {

@@ -7,7 +7,7 @@ use spool_slots::Slot;
 
 /// A slot of which entries are printed.
 #[derive(Clone, Copy)]
-pub(crate) struct Found {
+pub struct Found {
     /// Its numbers: of all of it, or of what stands before its fault.
     pub slot: Slot,
     /// Whether it is sound.
@@ -15,7 +15,7 @@ pub(crate) struct Found {
 }
 
 /// The same numbers of a slot that begins at this offset and has this many bytes.
-pub(crate) fn placed(slot: Slot, at: u64, size: u64) -> Slot
+pub fn placed(slot: Slot, at: u64, size: u64) -> Slot
     requires room { slot.gate < size }
     requires small { size ≤ most_size }
 

@@ -38,7 +38,7 @@ fn add_gap(gaps: &mut Vec<Span>, from: u64, to: u64)
 
 /// Finds the numbers between the first entry of the first of the slots and the last entry of all that none of them has, as far as they were
 /// found. The slots stand in order of their first numbers.
-pub(crate) fn find_gaps(founds: &[Found], gaps: &mut Vec<Span>)
+pub fn find_gaps(founds: &[Found], gaps: &mut Vec<Span>)
     requires none { gaps.old.items ≡ [] }
     requires room { length founds.now ≤ vec_capacity gaps.old }
     requires readable { (len : _) × All (λ found. IsReadableSlot len found.slot) founds.now }

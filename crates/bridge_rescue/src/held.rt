@@ -16,7 +16,7 @@ const LEAST_SIZE: u64 = 4096;
 
 /// Bytes of a slot, as a disk of their own that is only read: those before a gate, which is closed there whatever it is on the device.
 #[derive(Drop)]
-pub(crate) struct Held {
+pub struct Held {
     bytes: Vec<u8>,
     ghost fits: { length bytes.items < 2 ^ 64 },
 }
@@ -37,12 +37,7 @@ fn read_front<D: Disk>(disk: &mut D, at: u64, bytes: &mut [u8], n: usize) -> Res
 impl Held {
     /// The `n` bytes from offset `at` of the device on. The error says that no memory was found for them, or that a call of the disk
     /// failed.
-    pub(crate) fn read<D: Disk>(
-        alloc: Global,
-        disk: &mut D,
-        at: u64,
-        n: u64,
-    ) -> Result<Held, ScanFault>
+    pub fn read<D: Disk>(alloc: Global, disk: &mut D, at: u64, n: u64) -> Result<Held, ScanFault>
         requires place { at + n ≤ (D.moment disk.old).size }
         requires small { n + 1 ≤ most_size }
 

@@ -16,8 +16,12 @@ mod printing;
 mod rescued;
 mod top;
 
-pub use fault::{SlotFault, Why};
-pub use gaps::Span;
+pub use fault::{SlotFault, Why, verdict};
+pub use found::{Found, placed};
+pub use gaps::{Span, find_gaps};
+pub use held::Held;
 pub use layout::Layout;
+pub use looking::{Looked, look_at_all};
+pub use printing::note_of_scan;
 pub use rescued::{Report, Rescued};
-pub use top::bridge_rescue;
+pub use top::{bridge_rescue, layout_of, reserve};

@@ -37,9 +37,12 @@ pub(crate) enum Seen {
 
 /// The slots of a device of which entries are printed, in order of their numbers; those at fault, in order of place; and how many are sound.
 #[derive(Drop)]
-pub(crate) struct Looked {
+pub struct Looked {
+    /// What was found of the slots, in order of its first numbers.
     pub found: Vec<Found>,
+    /// The slots at fault, in order of place.
     pub faults: Vec<SlotFault>,
+    /// How many slots are sound.
     pub sound: u32,
 }
 
@@ -240,7 +243,7 @@ impl Looked {
 
 /// Looks at each slot of a device of this layout, through the window. Nothing is written, and a read that fails doesn't end it: that slot
 /// is at fault.
-pub(crate) fn look_at_all<D: Disk>(
+pub fn look_at_all<D: Disk>(
     alloc: Global,
     disk: &mut D,
     window: &mut Window,

@@ -22,8 +22,8 @@ use std::alloc::Global;
 /// How many entries are read at a time.
 const PART: u32 = 256;
 
-// The note of the same name.
-fn note_of_scan(fault: ScanFault) -> Note
+/// The note of the same name.
+pub fn note_of_scan(fault: ScanFault) -> Note
     ensures { result ≡ note_of_scan fault }
 {
     match fault {

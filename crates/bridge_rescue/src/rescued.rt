@@ -17,8 +17,8 @@ pub struct Report {
     pub faults: Vec<SlotFault>,
     /// The numbers between the entries that were found that none of these has, in order.
     pub gaps: Vec<Span>,
-    /// How many entries were found, where all of them were printed: those of the sound slots, and those before the fault of each slot
-    /// that is broken.
+    /// How many entries were found, where all of them were printed, or stored into another spool: those of the sound slots, and those
+    /// before the fault of each slot that is broken.
     pub printed: Option<u64>,
 }
 

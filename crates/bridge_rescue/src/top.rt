@@ -21,9 +21,9 @@ use notes::Note;
 use spool_slots::Window;
 use std::alloc::{AllocError, Global};
 
-// What is reserved before a slot is read: room for what becomes of the slots, the window through which they are read, and room for what
-// is missing between them.
-fn reserve(alloc: Global, slots: u32) -> Result<(Looked, Window, Vec<Span>), AllocError>
+/// What is reserved before a slot is read: room for what becomes of the slots, the window through which they are read, and room for what
+/// is missing between them. The error says that no memory was found.
+pub fn reserve(alloc: Global, slots: u32) -> Result<(Looked, Window, Vec<Span>), AllocError>
     ensures looked { IfOk result (λ reserved. HasRoom slots 0 reserved.0) }
     ensures gaps { IfOk result (λ reserved. (slots ≤ vec_capacity reserved.2) × (reserved.2.items ≡ [])) }
 {
@@ -31,8 +31,9 @@ fn reserve(alloc: Global, slots: u32) -> Result<(Looked, Window, Vec<Span>), All
     Ok((Looked::reserve(alloc, slots)?, Window::new(alloc)?, gaps))
 }
 
-// The layout that is given, or where none is, the one that the header tells.
-fn layout_of<D: Disk>(given: Option<Layout>, disk: &mut D) -> Result<Layout, Note>
+/// The layout that is given, or where none is, the one that the header tells. The error is the note: `NotSpool` where the header tells
+/// none, and `DiskFault` where it wasn't read.
+pub fn layout_of<D: Disk>(given: Option<Layout>, disk: &mut D) -> Result<Layout, Note>
     ensures calls { Calls (IsErrOf result Note.DiskFault) (D.moment disk.old) (D.moment disk.new) }
     ensures told { D.tells → IsUntouched (D.moment disk.old) (D.moment disk.new) }
     ensures found { IfOk result (λ layout. D.tells → IsLayoutOf given (D.moment disk.old).reads layout.slots layout.size) }

@@ -2,7 +2,7 @@
 ghost use Rattle.std.specs.Prelude.{IfOk, ℕ, List};
 ghost use Rattle.edge_file.specs.declared.open_fault.Sharing.TheVariants.{Exclusive};
 ghost use Rattle.cli_files.specs.declared.files.How.{How};
-ghost use Rattle.cli_files.specs.declared.files.How.TheVariants.{Existing};
+ghost use Rattle.cli_files.specs.declared.files.How.TheVariants.{Existing, ToRead};
 
 use cli_parts::make_disk;
 use edge_disk::Disk;
@@ -34,6 +34,11 @@ pub trait Files {
     /// Opens two files that exist, each for this program alone, and says why they aren't opened. They are not one file.
     fn open_both(&self, first: &str, second: &str) -> Result<(Self::D, Self::D), PairFault>
         ensures { IfOk result (λ disks. opened first.now (Existing Exclusive) disks.0 × opened second.now (Existing Exclusive) disks.1) };
+
+    /// Opens two files that exist, the first to be read alone, beside others that read it, and the second for this program alone, and says
+    /// why they aren't opened. They are not one file.
+    fn open_beside(&self, first: &str, second: &str) -> Result<(Self::D, Self::D), PairFault>
+        ensures { IfOk result (λ disks. opened first.now ToRead disks.0 × opened second.now (Existing Exclusive) disks.1) };
 }
 
 /// The files of the system.
@@ -65,5 +70,9 @@ impl Files for SystemFiles<'_> {
 
     fn open_both(&self, first: &str, second: &str) -> Result<(FileDisk, FileDisk), PairFault> {
         FileDisk::open_both(self.rt, first, second)
+    }
+
+    fn open_beside(&self, first: &str, second: &str) -> Result<(FileDisk, FileDisk), PairFault> {
+        FileDisk::open_beside(self.rt, first, second)
     }
 }

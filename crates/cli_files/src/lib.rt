@@ -6,10 +6,12 @@ mod files;
 mod pair;
 mod refused;
 mod rescue;
+mod restore;
 mod skip;
 
 pub use files::{Files, How, SystemFiles};
 pub use pair::run_move;
 pub use refused::refuse;
-pub use rescue::run_rescue;
+pub use rescue::{run_check, run_rescue};
+pub use restore::run_restore;
 pub use skip::run_skip;

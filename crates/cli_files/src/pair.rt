@@ -3,7 +3,7 @@ ghost use Rattle.std.specs.Prelude.{◌≡◌, ◌⊎◌, ℕ, List, map, string
 ghost use Rattle.spool_answers.specs.Leave.{LetsKeep};
 ghost use Rattle.spool_move.specs.Leave.{MayMove};
 ghost use Rattle.conn_serve.specs.Endings.{CountsFaults};
-ghost use Rattle.notes.specs.declared.note.Note.TheVariants.{DiskFault, NoMemory, WriteFault};
+ghost use Rattle.notes.specs.declared.note.Note.TheVariants.{WriteFault};
 ghost use Rattle.bridge_words.specs.Words.{IsSomeMove};
 ghost use Rattle.bridge_parts.specs.Run.{output_run};
 ghost use Rattle.bridge_move.specs.Ended.{IsMoveNote};
@@ -14,11 +14,10 @@ ghost use Rattle.cli_files.specs.Opened.{IsUnopened, OverFiles};
 ghost use Rattle.cli_files.specs.Watched.{MovesWatched};
 
 use crate::files::Files;
-use crate::refused::refuse;
+use crate::refused::refuse_pair;
 use bridge_move::{Moved, bridge_move};
 use cli_parts::{Ending, Host, Progress, Showing, Waiting, Watched, print_no_spool};
 use edge_disk::Disk;
-use edge_file::PairFault;
 use edge_io::Sink;
 use notes::Note;
 
@@ -68,20 +67,6 @@ fn move_over<D: Disk, E: Disk, K: Sink>(
         note,
         source: source.into_disk(),
         target: target.into_disk(),
-    }
-}
-
-// Says why the two files weren't opened.
-fn refuse_pair(host: Host<'_>, file: &str, target: &str, fault: PairFault) -> Ending
-    ensures { (note_in result ≡ DiskFault) ⊎ (note_in result ≡ NoMemory) }
-{
-    match fault {
-        PairFault::First(fault) => refuse(host, file, fault),
-        PairFault::Second(fault) => refuse(host, target, fault),
-        PairFault::OneFile => {
-            let _ = eprintln!(host; "bridge: {file} and {target} are one file");
-            Ending::Unopened
-        }
     }
 }
 

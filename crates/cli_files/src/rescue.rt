@@ -1,5 +1,5 @@
 //! The top call of a rescue, over FILE, which is only read.
-ghost use Rattle.std.specs.Prelude.{◌≡◌, ◌⊎◌, ℕ, List, Option};
+ghost use Rattle.std.specs.Prelude.{◌≡◌, ◌⊎◌, ℕ, List, Option, None};
 ghost use Rattle.conn_serve.specs.Endings.{CountsFaults};
 ghost use Rattle.notes.specs.declared.note.Note.TheVariants.{WriteFault};
 ghost use Rattle.bridge_parts.specs.Run.{disk_run, output_run};
@@ -10,9 +10,9 @@ ghost use Rattle.cli_parts.specs.Ending.{note_in};
 ghost use Rattle.cli_files.specs.Opened.{IsUnopened, OverFile};
 
 use crate::files::{Files, How};
-use crate::refused::refuse;
+use crate::refused::{print_refused, refuse};
 use bridge_rescue::{Layout, Rescued, bridge_rescue};
-use cli_parts::{Ending, Host, Progress, Showing, Waiting, Watched, print_note, print_rescue};
+use cli_parts::{Ending, Host, Progress, Showing, Waiting, Watched, print_check, print_rescue};
 use edge_disk::Disk;
 use edge_io::Sink;
 
@@ -45,13 +45,6 @@ fn rescue_over<D: Disk, K: Sink>(
     }
 }
 
-// Prints the note with which no file was opened. Where a line has said why it isn't, there is none.
-fn print_refused(host: Host<'_>, ending: Ending) {
-    if let Ending::Noted(note) = ending {
-        print_note(&(host, host.rt.alloc()), note);
-    }
-}
-
 /// Rescues the entries of `file`, which is opened to be read alone, beside others that read it. One that can't be opened is a fault of the
 /// disk, or `InUse`, and standard error says why in a line of its own; else it says which slots are at fault.
 pub fn run_rescue<F: Files, K: Sink>(
@@ -79,6 +72,41 @@ pub fn run_rescue<F: Files, K: Sink>(
                 rescued.report.as_ref(),
             );
             Ending::Noted(rescued.note)
+        }
+        Err(fault) => {
+            let ending = refuse(host, file, fault);
+            print_refused(host, ending);
+            ending
+        }
+    }
+}
+
+/// Reads `file` as a rescue does that needs no layout, and says which slots are at fault, and how many are sound; `nowhere` gets the entries. The
+/// file is opened to be read alone, beside others that read it. One that can't be opened is a fault of the disk, or `InUse`, and standard error
+/// says why in a line of its own. The register is not looked at.
+pub fn run_check<F: Files, K: Sink>(
+    host: Host<'_>,
+    files: &F,
+    file: &str,
+    nowhere: &mut K,
+) -> Ending
+    requires prints { (k : K) (text : List ℕ) → K.permits k text }
+
+    ensures known { IsRescueNote (note_in result) }
+    ensures done { IsUnopened (note_in result) (nowhere.new ≡ nowhere.old) ⊎ OverFile (F.opened file.now) ToRead (λ disk after. (report : Option Report) ×
+        IsRescueRun None (disk_run F.D.tells F.D.moment disk after) (output_run K.taken K.write_faults nowhere.old nowhere.new) report (note_in result)) }
+{
+    match files.open(file, How::ToRead) {
+        Ok(disk) => {
+            let is_shown = Showing::Always.is_seen(host.rt);
+            let found = rescue_over(host, None, disk, is_shown, nowhere);
+            print_check(
+                &(host, host.rt.alloc()),
+                file,
+                found.note,
+                found.report.as_ref(),
+            );
+            Ending::Noted(found.note)
         }
         Err(fault) => {
             let ending = refuse(host, file, fault);

@@ -1,6 +1,8 @@
 pub mod Listing
+mod Addresses
 mod Counted
 mod Options
 mod Rescuing
+mod Restoring
 mod Skipping
 pub mod TokenWords

@@ -3,9 +3,9 @@ use Rattle.std.proofs.Common.{◌≡◌, ◌∙◌, ◌-◌, ◌<◌, ◌≤◌,
 use Rattle.std.proofs.lemmas.List.{take_rest, append-nil}
 use Rattle.cli_parts.specs.declared.run_options.RunOptions.{RunOptions}
 use Rattle.cli_parts.specs.declared.run_options.Flag.{Flag}
-use Rattle.cli_parts.specs.declared.run_options.WrongOption.{WrongOption}
-use Rattle.cli_parts.specs.declared.run_options.WrongOption.TheVariants.{Twice, Valued, IdleElsewhere, IdleTwice, IdleNoValue, IdleRange, MemoryElsewhere, MemoryTwice, MemoryNoValue, MemoryRange}
-use Rattle.cli_parts.specs.RunOptions.{Text, no_options, option_name, IsNoOption, IsNoBytes, IsNoSeconds, IsRead, named, flag, idle, memory, other, flag_word, is_given, giving, AreTaken, TakesIdle, TakesMemory, IsWrongNext}
+use Rattle.cli_parts.specs.declared.wrong_option.WrongOption.{WrongOption}
+use Rattle.cli_parts.specs.declared.wrong_option.WrongOption.TheVariants.{Twice, Valued, IdleElsewhere, IdleTwice, IdleNoValue, IdleRange, MemoryElsewhere, MemoryTwice, MemoryNoValue, MemoryRange, ProxyElsewhere, ProxyTwice, ProxyNoValue, ProxyNone}
+use Rattle.cli_parts.specs.RunOptions.{Text, no_options, option_name, IsNoOption, IsNoAddresses, IsNoBytes, IsNoSeconds, IsRead, named, flag, idle, memory, proxies, other, flag_word, is_given, giving, AreTaken, TakesIdle, TakesMemory, TakesProxies, IsWrongNext}
 use Rattle.cli_parts.specs.Piece.{IsNext, so_far_as}
 
 -- the first of some elements, and the others as a pattern has them
@@ -71,6 +71,24 @@ next_memory_with name word value more old new kept is takes = record {
       (memory was takes.once takes.serves (inr (ap (λ w. w ∷ []) is)) takes.read);
 }
 
+pub next_proxies : (name word value : Text) (whole more : List Text) (old new : RunOptions) (kept : List Text) → whole ≡ value ∷ more
+    → word ≡ codes "--accept-proxy" → TakesProxies name value old new → IsNext name (word ∷ whole) more (so_far_as old kept) (so_far_as new kept)
+next_proxies name word value whole more old new kept whole_is is takes = record {
+  own = word ∷ value ∷ [];
+  words_are = ap (λ l. word ∷ l) whole_is;
+  goes_on = λ read was. subst (λ (o : RunOptions). IsRead name (read ++ word ∷ value ∷ []) o kept) (sym takes.new_is)
+      (proxies was takes.once takes.serves (inl (ap (λ w. w ∷ value ∷ []) is)) takes.read);
+}
+
+pub next_proxies_with : (name word value : Text) (more : List Text) (old new : RunOptions) (kept : List Text) → word ≡ codes "--accept-proxy=" ++ value
+    → TakesProxies name value old new → IsNext name (word ∷ more) more (so_far_as old kept) (so_far_as new kept)
+next_proxies_with name word value more old new kept is takes = record {
+  own = word ∷ [];
+  words_are = refl;
+  goes_on = λ read was. subst (λ (o : RunOptions). IsRead name (read ++ word ∷ []) o kept) (sym takes.new_is)
+      (proxies was takes.once takes.serves (inr (ap (λ w. w ∷ []) is)) takes.read);
+}
+
 -- what is wrong with them
 
 pub wrong_flag : (one : Flag) (name word : Text) (more : List Text) (old : RunOptions) (wrong : WrongOption) → word ≡ flag_word one
@@ -91,6 +109,10 @@ wrong_idle name word value whole more old MemoryElsewhere whole_is is why = absu
 wrong_idle name word value whole more old MemoryTwice whole_is is why = absurd why
 wrong_idle name word value whole more old MemoryNoValue whole_is is why = absurd why
 wrong_idle name word value whole more old MemoryRange whole_is is why = absurd why
+wrong_idle name word value whole more old ProxyElsewhere whole_is is why = absurd why
+wrong_idle name word value whole more old ProxyTwice whole_is is why = absurd why
+wrong_idle name word value whole more old ProxyNoValue whole_is is why = absurd why
+wrong_idle name word value whole more old ProxyNone whole_is is why = absurd why
 
 pub wrong_idle_with : (name word value : Text) (more : List Text) (old : RunOptions) (wrong : WrongOption) → word ≡ codes "--idle=" ++ value
     → IsNoSeconds wrong name old value → IsWrongNext wrong name old (word ∷ more)
@@ -104,6 +126,10 @@ wrong_idle_with name word value more old MemoryElsewhere is why = absurd why
 wrong_idle_with name word value more old MemoryTwice is why = absurd why
 wrong_idle_with name word value more old MemoryNoValue is why = absurd why
 wrong_idle_with name word value more old MemoryRange is why = absurd why
+wrong_idle_with name word value more old ProxyElsewhere is why = absurd why
+wrong_idle_with name word value more old ProxyTwice is why = absurd why
+wrong_idle_with name word value more old ProxyNoValue is why = absurd why
+wrong_idle_with name word value more old ProxyNone is why = absurd why
 
 pub wrong_memory : (name word value : Text) (whole more : List Text) (old : RunOptions) (wrong : WrongOption) → whole ≡ value ∷ more
     → word ≡ codes "--memory" → IsNoBytes wrong name old value → IsWrongNext wrong name old (word ∷ whole)
@@ -118,6 +144,10 @@ wrong_memory name word value whole more old IdleElsewhere whole_is is why = absu
 wrong_memory name word value whole more old IdleTwice whole_is is why = absurd why
 wrong_memory name word value whole more old IdleNoValue whole_is is why = absurd why
 wrong_memory name word value whole more old IdleRange whole_is is why = absurd why
+wrong_memory name word value whole more old ProxyElsewhere whole_is is why = absurd why
+wrong_memory name word value whole more old ProxyTwice whole_is is why = absurd why
+wrong_memory name word value whole more old ProxyNoValue whole_is is why = absurd why
+wrong_memory name word value whole more old ProxyNone whole_is is why = absurd why
 
 pub wrong_memory_with : (name word value : Text) (more : List Text) (old : RunOptions) (wrong : WrongOption) → word ≡ codes "--memory=" ++ value
     → IsNoBytes wrong name old value → IsWrongNext wrong name old (word ∷ more)
@@ -131,6 +161,45 @@ wrong_memory_with name word value more old IdleElsewhere is why = absurd why
 wrong_memory_with name word value more old IdleTwice is why = absurd why
 wrong_memory_with name word value more old IdleNoValue is why = absurd why
 wrong_memory_with name word value more old IdleRange is why = absurd why
+wrong_memory_with name word value more old ProxyElsewhere is why = absurd why
+wrong_memory_with name word value more old ProxyTwice is why = absurd why
+wrong_memory_with name word value more old ProxyNoValue is why = absurd why
+wrong_memory_with name word value more old ProxyNone is why = absurd why
+
+pub wrong_proxies : (name word value : Text) (whole more : List Text) (old : RunOptions) (wrong : WrongOption) → whole ≡ value ∷ more
+    → word ≡ codes "--accept-proxy" → IsNoAddresses wrong name old value → IsWrongNext wrong name old (word ∷ whole)
+wrong_proxies name word value whole more old (Twice one) whole_is is why = absurd why
+wrong_proxies name word value whole more old (Valued one) whole_is is why = absurd why
+wrong_proxies name word value whole more old ProxyElsewhere whole_is is why = (why, (word, whole, refl, ap option_name is))
+wrong_proxies name word value whole more old ProxyTwice whole_is is why = (why, (word, whole, refl, ap option_name is))
+wrong_proxies name word value whole more old ProxyNoValue whole_is is why = absurd why
+wrong_proxies name word value whole more old ProxyNone whole_is is why =
+    (word ∷ value ∷ [], more, value, ap (λ l. word ∷ l) whole_is, inl (ap (λ w. w ∷ value ∷ []) is), why)
+wrong_proxies name word value whole more old IdleElsewhere whole_is is why = absurd why
+wrong_proxies name word value whole more old IdleTwice whole_is is why = absurd why
+wrong_proxies name word value whole more old IdleNoValue whole_is is why = absurd why
+wrong_proxies name word value whole more old IdleRange whole_is is why = absurd why
+wrong_proxies name word value whole more old MemoryElsewhere whole_is is why = absurd why
+wrong_proxies name word value whole more old MemoryTwice whole_is is why = absurd why
+wrong_proxies name word value whole more old MemoryNoValue whole_is is why = absurd why
+wrong_proxies name word value whole more old MemoryRange whole_is is why = absurd why
+
+pub wrong_proxies_with : (name word value : Text) (more : List Text) (old : RunOptions) (wrong : WrongOption) → word ≡ codes "--accept-proxy=" ++ value
+    → IsNoAddresses wrong name old value → IsWrongNext wrong name old (word ∷ more)
+wrong_proxies_with name word value more old (Twice one) is why = absurd why
+wrong_proxies_with name word value more old (Valued one) is why = absurd why
+wrong_proxies_with name word value more old ProxyElsewhere is why = (why, (word, more, refl, ap option_name is))
+wrong_proxies_with name word value more old ProxyTwice is why = (why, (word, more, refl, ap option_name is))
+wrong_proxies_with name word value more old ProxyNoValue is why = absurd why
+wrong_proxies_with name word value more old ProxyNone is why = (word ∷ [], more, value, refl, inr (ap (λ w. w ∷ []) is), why)
+wrong_proxies_with name word value more old IdleElsewhere is why = absurd why
+wrong_proxies_with name word value more old IdleTwice is why = absurd why
+wrong_proxies_with name word value more old IdleNoValue is why = absurd why
+wrong_proxies_with name word value more old IdleRange is why = absurd why
+wrong_proxies_with name word value more old MemoryElsewhere is why = absurd why
+wrong_proxies_with name word value more old MemoryTwice is why = absurd why
+wrong_proxies_with name word value more old MemoryNoValue is why = absurd why
+wrong_proxies_with name word value more old MemoryRange is why = absurd why
 
 pub next_other : (name word : Text) (more : List Text) (old new : RunOptions) (kept now : List Text) → IsNoOption word → new ≡ old
     → now ≡ kept ++ word ∷ [] → IsNext name (word ∷ more) more (so_far_as old kept) (so_far_as new now)

@@ -1,9 +1,13 @@
+pub mod CheckWords
 pub mod Ending
 pub mod Help
 pub mod Near
 pub mod Opening
 pub mod Piece
+pub mod ProxyWords
 pub mod RescueWords
+pub mod RestoreWords
+pub mod RestoreParts
 pub mod RunOptions
 pub mod Sizes
 pub mod SkipWords

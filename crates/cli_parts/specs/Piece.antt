@@ -1,7 +1,7 @@
 -- How the next of a command's words is read, where it may be an option of a run, and what is taken of all.
 use Rattle.std.specs.Prelude.{◌≡◌, ◌≢◌, ◌⊎◌, List, ◌∷◌, ◌++◌, codes, map, string_bytes}
-use Rattle.cli_parts.specs.declared.run_options.Piece.{Piece}
-use Rattle.cli_parts.specs.declared.run_options.Piece.TheVariants.{Flag, FlagWith, Idle, IdleWith, Memory, MemoryWith, Other}
+use Rattle.cli_parts.specs.declared.piece.Piece.{Piece}
+use Rattle.cli_parts.specs.declared.piece.Piece.TheVariants.{Flag, FlagWith, Idle, IdleWith, Memory, MemoryWith, Proxy, ProxyWith, Other}
 use Rattle.cli_parts.specs.declared.run_options.Flag.{Flag as RunFlag}
 use Rattle.cli_parts.specs.declared.run_options.RunOptions.{RunOptions}
 use Rattle.cli_parts.specs.declared.run_options.Taken.{Taken}
@@ -15,6 +15,8 @@ IsPiece Idle word = word ≡ codes "--idle"
 IsPiece (IdleWith value) word = word ≡ codes "--idle=" ++ value.now
 IsPiece Memory word = word ≡ codes "--memory"
 IsPiece (MemoryWith value) word = word ≡ codes "--memory=" ++ value.now
+IsPiece Proxy word = word ≡ codes "--accept-proxy"
+IsPiece (ProxyWith value) word = word ≡ codes "--accept-proxy=" ++ value.now
 IsPiece Other word = IsNoOption word
 
 -- the same of a word without `=`
@@ -22,7 +24,8 @@ abbrev pub IsPlain : Piece → Text → Type 0
 IsPlain (Flag one) word = word ≡ flag_word one
 IsPlain Idle word = word ≡ codes "--idle"
 IsPlain Memory word = word ≡ codes "--memory"
-IsPlain Other word = ((one : RunFlag) → word ≢ flag_word one) × (word ≢ codes "--idle") × (word ≢ codes "--memory")
+IsPlain Proxy word = word ≡ codes "--accept-proxy"
+IsPlain Other word = ((one : RunFlag) → word ≢ flag_word one) × (word ≢ codes "--idle") × (word ≢ codes "--memory") × (word ≢ codes "--accept-proxy")
 IsPlain piece word = ⊥
 
 -- what came of the words that were read: the options, and the words that are kept

@@ -5,8 +5,10 @@ use Rattle.bridge_words.specs.Values.{number_within}
 use Rattle.cli_parts.specs.declared.run_options.RunOptions.{RunOptions}
 use Rattle.cli_parts.specs.declared.run_options.Flag.{Flag}
 use Rattle.cli_parts.specs.declared.run_options.Flag.TheVariants.{Quiet, Verbose, LogTime}
-use Rattle.cli_parts.specs.declared.run_options.WrongOption.{WrongOption}
-use Rattle.cli_parts.specs.declared.run_options.WrongOption.TheVariants.{Twice, Valued, IdleElsewhere, IdleTwice, IdleNoValue, IdleRange, MemoryElsewhere, MemoryTwice, MemoryNoValue, MemoryRange}
+use Rattle.cli_parts.specs.declared.wrong_option.WrongOption.{WrongOption}
+use Rattle.cli_parts.specs.declared.wrong_option.WrongOption.TheVariants.{Twice, Valued, IdleElsewhere, IdleTwice, IdleNoValue, IdleRange, MemoryElsewhere, MemoryTwice, MemoryNoValue, MemoryRange, ProxyElsewhere, ProxyTwice, ProxyNoValue, ProxyNone}
+use Rattle.cli_parts.specs.ProxyWords.{AreProxies, AreNoProxies}
+use Rattle.edge_net.specs.declared.proxies.Proxies.{Proxies}
 
 -- the bytes of a word
 abbrev pub Text : Type 0
@@ -14,7 +16,7 @@ Text = List ℕ
 
 -- none is given
 abbrev pub no_options : RunOptions
-no_options = record { is_quiet = false; is_verbose = false; has_time = false; idle = None; memory = None }
+no_options = record { is_quiet = false; is_verbose = false; has_time = false; idle = None; memory = None; proxies = None }
 
 -- the name of an option that has no value
 abbrev pub flag_word : Flag → Text
@@ -43,6 +45,7 @@ pub record IsNoOption (word : Text) : Type 0 where
   pub no_flag : (flag : Flag) → option_name word ≢ flag_word flag
   pub no_idle : option_name word ≢ codes "--idle"
   pub no_memory : option_name word ≢ codes "--memory"
+  pub no_proxies : option_name word ≢ codes "--accept-proxy"
 
 -- `--idle SECONDS` or `--idle=SECONDS`
 abbrev pub IsIdle : List Text → Text → Type 0
@@ -51,6 +54,10 @@ IsIdle words value = (words ≡ codes "--idle" ∷ value ∷ []) ⊎ (words ≡ 
 -- `--memory BYTES` or `--memory=BYTES`
 abbrev pub IsMemory : List Text → Text → Type 0
 IsMemory words value = (words ≡ codes "--memory" ∷ value ∷ []) ⊎ (words ≡ (codes "--memory=" ++ value) ∷ [])
+
+-- `--accept-proxy IPS` or `--accept-proxy=IPS`
+abbrev pub IsAcceptProxy : List Text → Text → Type 0
+IsAcceptProxy words value = (words ≡ codes "--accept-proxy" ∷ value ∷ []) ⊎ (words ≡ (codes "--accept-proxy=" ++ value) ∷ [])
 
 -- a number of bytes
 abbrev pub bytes_in : Text → Option ℕ
@@ -61,7 +68,7 @@ abbrev pub seconds_in : Text → Option ℕ
 seconds_in value = number_within 1 86400 value
 
 -- The name of a command and words after it, none of which ends the options; the options of the run among them, each of which stands once
--- at most, and `--idle` and `--memory` with `serve` alone; and the other words, in their order.
+-- at most, and `--idle`, `--memory` and `--accept-proxy` with `serve` alone; and the other words, in their order.
 pub data IsRead (name : Text) : List Text → RunOptions → List Text → Type 0 where
   named : IsRead name (name ∷ []) no_options (name ∷ [])
   flag : {words kept : List Text} {options : RunOptions} (one : Flag) → IsRead name words options kept → is_given one options ≡ false
@@ -72,6 +79,9 @@ pub data IsRead (name : Text) : List Text → RunOptions → List Text → Type 
   memory : {words kept own : List Text} {options : RunOptions} {value : Text} {n : ℕ} → IsRead name words options kept → options.memory ≡ None
       → name ≡ codes "serve" → IsMemory own value → bytes_in value ≡ Some n
       → IsRead name (words ++ own) (record options { memory = Some n }) kept
+  proxies : {words kept own : List Text} {options : RunOptions} {value : Text} {through : Proxies} → IsRead name words options kept → options.proxies ≡ None
+      → name ≡ codes "serve" → IsAcceptProxy own value → AreProxies value through
+      → IsRead name (words ++ own) (record options { proxies = Some through }) kept
   other : {words kept : List Text} {options : RunOptions} {word : Text} → IsRead name words options kept → IsNoOption word
       → IsRead name (words ++ word ∷ []) options (kept ++ word ∷ [])
 
@@ -104,6 +114,10 @@ BeginsIdle words = (word : Text) × (more : List Text) × (words ≡ word ∷ mo
 abbrev pub BeginsMemory : List Text → Type 0
 BeginsMemory words = (word : Text) × (more : List Text) × (words ≡ word ∷ more) × (option_name word ≡ codes "--memory")
 
+-- `--accept-proxy` or `--accept-proxy=IPS` is the first of the words
+abbrev pub BeginsAcceptProxy : List Text → Type 0
+BeginsAcceptProxy words = (word : Text) × (more : List Text) × (words ≡ word ∷ more) × (option_name word ≡ codes "--accept-proxy")
+
 -- BYTES of `--memory` is taken: it is one of `serve`, the first, and in range
 pub record TakesMemory (name value : Text) (old new : RunOptions) : Type 0 where
   pub bytes : ℕ
@@ -134,6 +148,21 @@ IsNoSeconds IdleTwice name options value = IsSome options.idle
 IsNoSeconds IdleRange name options value = seconds_in value ≡ None
 IsNoSeconds wrong name options value = ⊥
 
+-- IPS of `--accept-proxy` is taken: it is one of `serve`, the first, and writes one to eight addresses
+pub record TakesProxies (name value : Text) (old new : RunOptions) : Type 0 where
+  pub proxies : Proxies
+  pub serves : name ≡ codes "serve"
+  pub once : old.proxies ≡ None
+  pub read : AreProxies value proxies
+  pub new_is : new ≡ record old { proxies = Some proxies }
+
+-- why IPS isn't taken, after these options
+abbrev pub IsNoAddresses : WrongOption → Text → RunOptions → Text → Type 0
+IsNoAddresses ProxyElsewhere name options value = name ≢ codes "serve"
+IsNoAddresses ProxyTwice name options value = IsSome options.proxies
+IsNoAddresses ProxyNone name options value = AreNoProxies value
+IsNoAddresses wrong name options value = ⊥
+
 -- what is wrong with the option that the words begin with, after these options
 abbrev pub IsWrongNext : WrongOption → Text → RunOptions → List Text → Type 0
 IsWrongNext (Twice one) name options words = (is_given one options ≡ true) × (slice_get words 0 ≡ Some (flag_word one))
@@ -148,6 +177,11 @@ IsWrongNext MemoryTwice name options words = IsSome options.memory × BeginsMemo
 IsWrongNext MemoryNoValue name options words = words ≡ codes "--memory" ∷ []
 IsWrongNext MemoryRange name options words =
     (own more : List Text) × (value : Text) × (words ≡ own ++ more) × IsMemory own value × (bytes_in value ≡ None)
+IsWrongNext ProxyElsewhere name options words = (name ≢ codes "serve") × BeginsAcceptProxy words
+IsWrongNext ProxyTwice name options words = IsSome options.proxies × BeginsAcceptProxy words
+IsWrongNext ProxyNoValue name options words = words ≡ codes "--accept-proxy" ∷ []
+IsWrongNext ProxyNone name options words =
+    (own more : List Text) × (value : Text) × (words ≡ own ++ more) × IsAcceptProxy own value × AreNoProxies value
 
 -- what is wrong with the first option among the words that is wrong
 pub record IsWrong (wrong : WrongOption) (words : List Text) : Type 0 where
@@ -176,3 +210,7 @@ wrong_text MemoryElsewhere = codes "--memory: an option of serve alone, 16777216
 wrong_text MemoryTwice = codes "--memory: given twice; once, 16777216 to 8589934592 bytes"
 wrong_text MemoryNoValue = codes "--memory: no value; 16777216 to 8589934592 bytes"
 wrong_text MemoryRange = codes "--memory: 16777216 to 8589934592 bytes; the largest request needs the least of these"
+wrong_text ProxyElsewhere = codes "--accept-proxy: an option of serve alone, addresses of proxies"
+wrong_text ProxyTwice = codes "--accept-proxy: given twice; once, with commas between addresses"
+wrong_text ProxyNoValue = codes "--accept-proxy: no value; addresses of proxies, with commas between them"
+wrong_text ProxyNone = codes "--accept-proxy: 1 to 8 addresses of IP, with commas between them"

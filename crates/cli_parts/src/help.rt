@@ -5,7 +5,7 @@ ghost use Rattle.cli_parts.specs.Help.{asked_by, IsFirst, IsSilent};
 
 /// The version: the newest head of the changes that CHANGELOG.md tells of, which is their day, and a number after it where the day has
 /// several.
-const VERSION: &str = "bridge 2026-12-01.3";
+const VERSION: &str = "bridge 2026-12-02";
 
 /// The page of help: what FILE is, a line for each command, for each option and for each exit status. tests/pages compares it with the
 /// manual.
@@ -24,7 +24,8 @@ Commands, as `bridge FILE COMMAND ..`:
   load PROTO NUMBER COUNT    tests itself in memory; FILE is not opened
   move TARGET TAG            moves the pending entries into TARGET, which is another spool
   skip NUMBER                prints one pending entry, and confirms it
-  rescue [SLOTS SIZE]        prints what is sound in a FILE that is damaged
+  check                      reads FILE through, and says what is at fault; nothing is changed
+  rescue [SLOTS SIZE]        prints what is sound in a FILE that is damaged, or stores it in another
 
 PROTO is relp, lumberjack or hec. PLACE is an address or a host, a colon and a port.
 
@@ -51,6 +52,10 @@ Options, after the command's name:
   --idle SECONDS        serve: how long a sender may be silent, 1 to 86400 (600)
   --memory BYTES        serve: how much memory senders' connections may take, 16777216 to
                         8589934592 (268435456)
+  --accept-proxy IPS    serve: senders come through these proxies alone, 1 to 8 addresses with
+                        commas, which send the head of the PROXY protocol first
+  --into TARGET         rescue: stores what it finds into TARGET, another spool
+  --tag TAG             rescue: the tag of these entries there, 0 to 4294967295
   --quiet               any: standard error gets no line about the network
   --verbose             any: standard error says which connection each sender has
   --log-time            any: lines on standard error have the time before them
@@ -84,7 +89,7 @@ struct Example {
 }
 
 // One of each command.
-const EXAMPLES: [Example; 9] = [
+const EXAMPLES: [Example; 10] = [
     Example {
         command: "format",
         call: "bridge /var/lib/bridge/logs format 16 64M",
@@ -116,6 +121,10 @@ const EXAMPLES: [Example; 9] = [
     Example {
         command: "skip",
         call: "bridge /var/lib/bridge/logs skip 81235 >> skipped.json",
+    },
+    Example {
+        command: "check",
+        call: "bridge /var/lib/bridge/logs check",
     },
     Example {
         command: "rescue",

@@ -10,8 +10,8 @@ use strsim::levenshtein;
 const NEAR: usize = 2;
 
 // The commands, and the options of each. The last two of these stand without a command too.
-const COMMANDS: [&str; 9] = [
-    "format", "replay", "list", "drain", "serve", "load", "move", "skip", "rescue",
+const COMMANDS: [&str; 10] = [
+    "format", "replay", "list", "drain", "serve", "load", "move", "skip", "check", "rescue",
 ];
 
 const NO_COMMAND: [&str; 2] = ["--help", "--version"];
@@ -48,7 +48,7 @@ const DRAIN: [&str; 8] = [
     "--version",
 ];
 
-const SERVE: [&str; 23] = [
+const SERVE: [&str; 24] = [
     "--relp",
     "--lumberjack",
     "--hec",
@@ -67,6 +67,17 @@ const SERVE: [&str; 23] = [
     "--polls",
     "--idle",
     "--memory",
+    "--accept-proxy",
+    "--quiet",
+    "--verbose",
+    "--log-time",
+    "--help",
+    "--version",
+];
+
+const RESCUE: [&str; 7] = [
+    "--into",
+    "--tag",
     "--quiet",
     "--verbose",
     "--log-time",
@@ -104,6 +115,8 @@ fn options_of(command: &str) -> &'static [&'static str] {
         &DRAIN
     } else if command == "serve" {
         &SERVE
+    } else if command == "rescue" {
+        &RESCUE
     } else {
         &OTHERS
     }

@@ -1,11 +1,13 @@
 //! The lines on standard error. A write of them that fails is not reported.
 use crate::arguments::Arguments;
+use crate::check_words::{begins_check, is_check};
 use crate::misspelt::{Misspelt, Named, misspelt_in};
 use crate::rescue_words::{begins_rescue, rescue_of};
-use crate::run_options::WrongOption;
+use crate::restore_words::restore_of;
 use crate::skip_words::{begins_skip, skip_of};
 use crate::status::Ending;
 use crate::unopened::missing_folder;
+use crate::wrong_option::WrongOption;
 use bridge_rescue::{Report, Span};
 use bridge_words::{WordsFault, wrong_words};
 use edge_file::OpenFault;
@@ -54,13 +56,32 @@ fn print_gap(rt: &impl Eprint, gap: Span) {
     };
 }
 
-// Prints how many slots are sound, and how many entries were printed.
-fn print_counts(rt: &impl Eprint, report: &Report) {
+// How many slots are sound, closed, and at fault.
+fn counts_of(report: &Report) -> (usize, usize, usize) {
     let sound = report.sound as usize;
     let wrong = report.faults.len();
     let closed = (report.slots as usize)
         .saturating_sub(sound)
         .saturating_sub(wrong);
+    (sound, closed, wrong)
+}
+
+// Prints how many slots are sound, and how many entries are in them.
+fn print_checked(rt: &impl Eprint, report: &Report) {
+    let (sound, closed, wrong) = counts_of(report);
+    let _ = match report.printed {
+        Some(found) => eprintln!(rt;
+            "bridge: slots: {sound} sound, {closed} closed, {wrong} at fault; entries: {found}"
+        ),
+        None => eprintln!(rt;
+            "bridge: slots: {sound} sound, {closed} closed, {wrong} at fault; not all entries were read"
+        ),
+    };
+}
+
+// Prints how many slots are sound, and how many entries were printed.
+fn print_counts(rt: &impl Eprint, report: &Report) {
+    let (sound, closed, wrong) = counts_of(report);
     let _ = match report.printed {
         Some(printed) => eprintln!(rt;
             "bridge: slots: {sound} sound, {closed} closed, {wrong} at fault; entries printed: {printed}"
@@ -68,6 +89,45 @@ fn print_counts(rt: &impl Eprint, report: &Report) {
         None => eprintln!(rt;
             "bridge: slots: {sound} sound, {closed} closed, {wrong} at fault; not all entries were printed"
         ),
+    };
+}
+
+// Prints how many slots are sound, and how many entries were stored into another spool.
+fn print_stored(rt: &impl Eprint, report: &Report, stored: u64) {
+    let (sound, closed, wrong) = counts_of(report);
+    let _ = match report.printed {
+        Some(_) => eprintln!(rt;
+            "bridge: slots: {sound} sound, {closed} closed, {wrong} at fault; entries stored: {stored}"
+        ),
+        None => eprintln!(rt;
+            "bridge: slots: {sound} sound, {closed} closed, {wrong} at fault; entries stored: {stored}, not all"
+        ),
+    };
+}
+
+// Prints a line for each slot at fault, and one for the numbers that are missing between two slots.
+fn print_found(rt: &impl Eprint, report: &Report) {
+    for fault in &report.faults {
+        print_error(rt, fault);
+    }
+    for gap in &report.gaps {
+        print_gap(rt, *gap);
+    }
+}
+
+// Prints why no slot of the file of this path was looked at.
+fn print_no_layout(rt: &(impl AllocGlobal + Eprint), path: &str, note: Note) {
+    let _ = match note {
+        Note::NotSpool { at: 0 } => eprintln!(rt;
+            "bridge: {path}: no header of a spool: SLOTS and SIZE after rescue tell what it told"
+        ),
+        Note::NotSpool { at } => eprintln!(rt;
+            "bridge: {path}: header out of range at byte {at}: SLOTS and SIZE after rescue tell what it told"
+        ),
+        _ => {
+            print_note(rt, note);
+            return;
+        }
     };
 }
 
@@ -81,40 +141,69 @@ pub fn print_rescue(
     report: Option<&Report>,
 ) {
     let Some(report) = report else {
-        let _ = match note {
-            Note::NotSpool { at: 0 } => eprintln!(rt;
-                "bridge: {path}: no header of a spool: SLOTS and SIZE after rescue tell what it told"
-            ),
-            Note::NotSpool { at } => eprintln!(rt;
-                "bridge: {path}: header out of range at byte {at}: SLOTS and SIZE after rescue tell what it told"
-            ),
-            _ => {
-                print_note(rt, note);
-                return;
-            }
-        };
+        print_no_layout(rt, path, note);
         return;
     };
-    for fault in &report.faults {
-        print_error(rt, fault);
-    }
-    for gap in &report.gaps {
-        print_gap(rt, *gap);
-    }
+    print_found(rt, report);
     if !matches!(note, Note::NotSpool { .. }) {
         print_note(rt, note);
     }
     print_counts(rt, report);
 }
 
+/// The same of a check, which prints no entries: last is said how many slots are sound, and how many entries they have.
+pub fn print_check(
+    rt: &(impl AllocGlobal + Eprint),
+    path: &str,
+    note: Note,
+    report: Option<&Report>,
+) {
+    let Some(report) = report else {
+        print_no_layout(rt, path, note);
+        return;
+    };
+    print_found(rt, report);
+    if !matches!(note, Note::NotSpool { .. }) {
+        print_note(rt, note);
+    }
+    print_checked(rt, report);
+}
+
+/// The same of a rescue into the spool of another path: which of the two is no spool is said too, and last how many entries that one has
+/// taken.
+pub fn print_restore(
+    rt: &(impl AllocGlobal + Eprint),
+    paths: [&str; 2],
+    note: Note,
+    report: Option<&Report>,
+    stored: u64,
+) {
+    let [path, target] = paths;
+    let Some(report) = report else {
+        print_no_layout(rt, path, note);
+        return;
+    };
+    print_found(rt, report);
+    if report.printed.is_none() {
+        print_no_spool(rt, target, note);
+        print_note(rt, note);
+    } else if !matches!(note, Note::NotSpool { .. }) {
+        print_note(rt, note);
+    }
+    print_stored(rt, report, stored);
+}
+
 /// Prints why what the arguments asked for ended, where it didn't end well: the note's text, but of a skip that found no pending entry, or
-/// no room for a stretch more, what that means. Of a rescue it prints nothing: [`print_rescue`] does; nor of a file that isn't opened,
-/// which has its own line.
+/// no room for a stretch more, what that means. Of a rescue and of a check it prints nothing: [`print_rescue`],
+/// [`print_restore`] and [`print_check`] do; nor of a file that isn't opened, which has its own line.
 pub fn print_ending(rt: &(impl AllocGlobal + Eprint), arguments: &Arguments, ending: Ending) {
     let Ending::Noted(note) = ending else {
         return;
     };
-    if rescue_of(&arguments.words).is_some() {
+    if is_check(&arguments.words)
+        || rescue_of(&arguments.words).is_some()
+        || restore_of(&arguments.words).is_some()
+    {
         return;
     }
     let _ = match (skip_of(&arguments.words), note) {
@@ -151,10 +240,12 @@ pub fn print_beside_usage(rt: &(impl AllocGlobal + Eprint), arguments: &Argument
             rt,
             "skip takes NUMBER, the number of a pending entry, and nothing else",
         );
+    } else if begins_check(&arguments.words) {
+        print_line(rt, "check takes nothing else");
     } else if begins_rescue(&arguments.words) {
         print_line(
             rt,
-            "rescue takes nothing, or SLOTS, 1 to 1024, and SIZE, 4096 to 1073741824",
+            "rescue takes nothing, or SLOTS, 1 to 1024, and SIZE, 4096 to 1073741824; and --into TARGET with --tag TAG, 0 to 4294967295",
         );
     } else if let Ok(Some(fault)) = wrong_words(rt.alloc(), &arguments.words) {
         print_error(rt, &fault);

@@ -16,8 +16,8 @@ pub struct RescueWords {
     pub layout: Option<Layout>,
 }
 
-// The layout that the two words give, as SLOTS and SIZE of `format` do.
-fn layout_of(slots: &str, size: &str) -> Option<Layout>
+/// The layout that the two words give, as SLOTS and SIZE of `format` do.
+pub(crate) fn layout_of(slots: &str, size: &str) -> Option<Layout>
     ensures { MatchOption result (IsNoLayoutWords slots.now size.now) (λ layout. IsLayoutWords layout slots.now size.now) }
 {
     Layout::of(number(slots)?, number(size)?)

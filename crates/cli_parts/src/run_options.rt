@@ -1,15 +1,18 @@
 //! The options of a run, which say how the program works and not what a command does. They stand among the command's words, and are
 //! taken out of these before the command is read.
-ghost use Rattle.std.specs.Prelude.{◌≡◌, ◌≢◌, ◌≤◌, ◌++◌, ◌∷◌, [], Err, IfOk, OnOk, IfErr, MatchOption, true, false, length, map, string_bytes};
-ghost use Rattle.cli_parts.specs.declared.run_options.Flag.{Flag};
-ghost use Rattle.cli_parts.specs.declared.run_options.WrongOption.TheVariants.{Twice};
-ghost use Rattle.cli_parts.specs.declared.run_options.WrongOption.{WrongOption};
+ghost use Rattle.std.specs.Prelude.{◌≡◌, ◌≤◌, ◌++◌, ◌∷◌, [], Err, IfOk, OnOk, IfErr, true, false, length, map, string_bytes};
+ghost use Rattle.cli_parts.specs.declared.wrong_option.WrongOption.TheVariants.{Twice};
+ghost use Rattle.cli_parts.specs.declared.wrong_option.WrongOption.{WrongOption};
 ghost use Rattle.cli_parts.specs.declared.run_options.Untaken.TheVariants.{Wrong, NoMemory};
-ghost use Rattle.cli_parts.specs.RunOptions.{IsNoBytes, IsNoSeconds, IsWrong, IsWrongNext, TakesIdle, TakesMemory, flag_word, is_given, giving, wrong_text};
-ghost use Rattle.cli_parts.specs.Piece.{IsPiece, IsPlain, IsTaken, TakesNext};
+ghost use Rattle.cli_parts.specs.RunOptions.{IsNoAddresses, IsNoBytes, IsNoSeconds, IsWrong, IsWrongNext, TakesIdle, TakesMemory, TakesProxies, is_given, giving};
+ghost use Rattle.cli_parts.specs.Piece.{IsTaken, TakesNext};
 
 use crate::bytes::bytes;
+use crate::piece::{Piece, piece_of};
+use crate::proxy_words::proxies;
 use crate::seconds::seconds;
+use crate::wrong_option::WrongOption;
+use edge_net::Proxies;
 use std::alloc::{AllocError, Global};
 use thiserror::Error;
 
@@ -28,6 +31,8 @@ pub struct RunOptions {
     /// How many bytes of memory the connections of senders may take, where that is said: 16,777,216 to 8,589,934,592, by
     /// `--memory BYTES`.
     pub memory: Option<u64>,
+    /// Through which proxies senders come, where that is said: one to eight addresses, by `--accept-proxy IPS`.
+    pub proxies: Option<Proxies>,
 }
 
 /// An option of a run that has no value.
@@ -67,60 +72,6 @@ impl RunOptions {
     }
 }
 
-/// Which option of a run is wrong, and why.
-#[derive(Clone, Copy, PartialEq, Eq, Debug, Drop, Error)]
-#[error("{}", self.text())]
-pub enum WrongOption {
-    /// One that has no value is given twice.
-    Twice(Flag),
-    /// It is given a value.
-    Valued(Flag),
-    /// `--idle` stands with another command than `serve`.
-    IdleElsewhere,
-    /// `--idle` is given twice.
-    IdleTwice,
-    /// `--idle` is the last of the words.
-    IdleNoValue,
-    /// SECONDS isn't 1 to 86,400.
-    IdleRange,
-    /// `--memory` stands with another command than `serve`.
-    MemoryElsewhere,
-    /// `--memory` is given twice.
-    MemoryTwice,
-    /// `--memory` is the last of the words.
-    MemoryNoValue,
-    /// BYTES isn't 16,777,216 to 8,589,934,592.
-    MemoryRange,
-}
-
-impl WrongOption {
-    /// The text for it: one line, without its end.
-    pub fn text(self) -> &'static str
-        ensures { result.now ≡ wrong_text self }
-    {
-        match self {
-            WrongOption::Twice(Flag::Quiet) => "--quiet: given twice",
-            WrongOption::Twice(Flag::Verbose) => "--verbose: given twice",
-            WrongOption::Twice(Flag::LogTime) => "--log-time: given twice",
-            WrongOption::Valued(Flag::Quiet) => "--quiet: takes no value",
-            WrongOption::Valued(Flag::Verbose) => "--verbose: takes no value",
-            WrongOption::Valued(Flag::LogTime) => "--log-time: takes no value",
-            WrongOption::IdleElsewhere => "--idle: an option of serve alone, 1 to 86400 seconds",
-            WrongOption::IdleTwice => "--idle: given twice; once, 1 to 86400 seconds",
-            WrongOption::IdleNoValue => "--idle: no value; 1 to 86400 seconds",
-            WrongOption::IdleRange => "--idle: 1 to 86400 seconds",
-            WrongOption::MemoryElsewhere => {
-                "--memory: an option of serve alone, 16777216 to 8589934592 bytes"
-            }
-            WrongOption::MemoryTwice => "--memory: given twice; once, 16777216 to 8589934592 bytes",
-            WrongOption::MemoryNoValue => "--memory: no value; 16777216 to 8589934592 bytes",
-            WrongOption::MemoryRange => {
-                "--memory: 16777216 to 8589934592 bytes; the largest request needs the least of these"
-            }
-        }
-    }
-}
-
 /// Why no options were taken out of words.
 #[derive(Clone, Copy, PartialEq, Eq, Debug, Drop, Error)]
 pub enum Untaken {
@@ -147,75 +98,6 @@ pub struct Taken {
     pub words: Vec<String>,
     /// The options.
     pub options: RunOptions,
-}
-
-// What a word is that stands where an option of a run may.
-#[derive(Clone, Copy)]
-enum Piece<'a> {
-    // An option that has no value.
-    Flag(Flag),
-    // The same with one.
-    FlagWith(Flag),
-    // `--idle`, whose value is the next word.
-    Idle,
-    // `--idle` with its value.
-    IdleWith(&'a str),
-    // `--memory`, whose value is the next word.
-    Memory,
-    // `--memory` with its value.
-    MemoryWith(&'a str),
-    // No option of a run.
-    Other,
-}
-
-// The option without a value that has this name.
-fn flag_of(name: &str) -> Option<Flag>
-    ensures { MatchOption result ((flag : Flag) → name.now ≢ flag_word flag) (λ flag. name.now ≡ flag_word flag) }
-{
-    if name == "--quiet" {
-        Some(Flag::Quiet)
-    } else if name == "--verbose" {
-        Some(Flag::Verbose)
-    } else if name == "--log-time" {
-        Some(Flag::LogTime)
-    } else {
-        None
-    }
-}
-
-// What the word is.
-fn piece_of(word: &str) -> Piece<'_>
-    ensures { IsPiece result word.now }
-{
-    let Some((name, value)) = word.split_once('=') else {
-        return plain_piece(word);
-    };
-    if name == "--idle" {
-        return Piece::IdleWith(value);
-    }
-    if name == "--memory" {
-        return Piece::MemoryWith(value);
-    }
-    match flag_of(name) {
-        Some(flag) => Piece::FlagWith(flag),
-        None => Piece::Other,
-    }
-}
-
-// What the word is, which has no `=`.
-fn plain_piece(word: &str) -> Piece<'static>
-    ensures { IsPlain result word.now }
-{
-    if word == "--idle" {
-        return Piece::Idle;
-    }
-    if word == "--memory" {
-        return Piece::Memory;
-    }
-    match flag_of(word) {
-        Some(flag) => Piece::Flag(flag),
-        None => Piece::Other,
-    }
 }
 
 impl Taken {
@@ -293,6 +175,26 @@ impl Taken {
         Ok(())
     }
 
+    // Takes the value of `--accept-proxy`, among the words of the command of this name.
+    fn take_proxies(&mut self, name: &str, value: &str) -> Result<(), WrongOption>
+        ensures proxies { OnOk result (TakesProxies name.now value.now self.old.options self.new.options) }
+        ensures words { self.new.words ≡ self.old.words }
+        ensures wrong { IfErr result (λ wrong. IsNoAddresses wrong name.now self.old.options value.now) }
+    {
+        let is_serving = name == "serve";
+        if !is_serving {
+            return Err(WrongOption::ProxyElsewhere);
+        }
+        if self.options.proxies.is_some() {
+            return Err(WrongOption::ProxyTwice);
+        }
+        let Some(proxies) = proxies(value) else {
+            return Err(WrongOption::ProxyNone);
+        };
+        self.options.proxies = Some(proxies);
+        Ok(())
+    }
+
     // Reads the next word of the command of this name, with the one after it where that is its value, and returns the words after these.
     fn read<'a>(
         &mut self,
@@ -333,6 +235,19 @@ impl Taken {
                     Err(wrong) => Err(Untaken::Wrong(wrong)),
                 }
             }
+            Piece::ProxyWith(value) => match self.take_proxies(name, value) {
+                Ok(()) => Ok(more),
+                Err(wrong) => Err(Untaken::Wrong(wrong)),
+            },
+            Piece::Proxy => {
+                let [value, left @ ..] = more else {
+                    return Err(Untaken::Wrong(WrongOption::ProxyNoValue));
+                };
+                match self.take_proxies(name, value.as_str()) {
+                    Ok(()) => Ok(left),
+                    Err(wrong) => Err(Untaken::Wrong(wrong)),
+                }
+            }
             Piece::Flag(flag) => match self.take_flag(flag) {
                 Ok(()) => Ok(more),
                 Err(wrong) => Err(Untaken::Wrong(wrong)),
@@ -347,8 +262,8 @@ impl Taken {
 }
 
 /// Takes the options of the run out of words, which are the name of a command and then its own words: `--quiet`, `--verbose` and
-/// `--log-time`, and with `serve` `--idle SECONDS` or `--idle=SECONDS`, and `--memory` likewise, each once at most. What is left are the
-/// other words, in their order, and all from `--` on.
+/// `--log-time`, and with `serve` `--idle SECONDS` or `--idle=SECONDS`, and `--memory` and `--accept-proxy` likewise, each once at most. What
+/// is left are the other words, in their order, and all from `--` on.
 ///
 /// The error says which is the first option that is wrong, and why, or that no memory was found.
 pub fn take_options(alloc: Global, words: &[String]) -> Result<Taken, Untaken>
@@ -363,6 +278,7 @@ pub fn take_options(alloc: Global, words: &[String]) -> Result<Taken, Untaken>
             has_time: false,
             idle: None,
             memory: None,
+            proxies: None,
         },
     };
     let [name, rest @ ..] = words else {

@@ -1,28 +1,40 @@
-//! What a terminal is shown.
+//! What is shown on standard output.
 use std::alloc::{AllocError, Global};
 use std::io::{self, Write};
 
 // The first byte of each of the characters from U+0080 to U+00BF.
 const LEAD: u8 = 0xC2;
 
+/// Who reads standard output.
+#[derive(Clone, Copy, PartialEq, Eq)]
+pub enum Reader {
+    /// A terminal.
+    Terminal,
+    /// A file, or another program.
+    Program,
+    /// Nobody: what is written is dropped.
+    Nobody,
+}
+
 /// A writer to standard output. Where that is a terminal, control characters of events don't reach it: DEL, those up to U+001F but tab
-/// and line feed, and those from U+0080 to U+009F are written as `\u` and four hexadecimal digits. Elsewhere bytes stay as they are.
+/// and line feed, and those from U+0080 to U+009F are written as `\u` and four hexadecimal digits. Elsewhere bytes stay as they are,
+/// and where nobody reads them none is written.
 #[derive(Drop)]
 pub struct Shown<W: Drop> {
     alloc: Global,
     inner: W,
-    is_terminal: bool,
+    reader: Reader,
     // The last byte may begin a control character, and isn't written yet.
     has_lead: bool,
 }
 
 impl<W: Drop> Shown<W> {
-    /// A writer over this one, which is a terminal's or not.
-    pub fn over(alloc: Global, inner: W, is_terminal: bool) -> Shown<W> {
+    /// A writer over this one, which has such a reader.
+    pub fn over(alloc: Global, inner: W, reader: Reader) -> Shown<W> {
         Shown {
             alloc,
             inner,
-            is_terminal,
+            reader,
             has_lead: false,
         }
     }
@@ -55,12 +67,15 @@ fn is_control(byte: u8) -> bool {
 
 impl<W: Write + Drop> Write for Shown<W> {
     fn write(&mut self, buf: &[u8]) -> io::Result<usize> {
-        if !self.is_terminal {
-            return self.inner.write(buf);
+        match self.reader {
+            Reader::Nobody => Ok(buf.len()),
+            Reader::Program => self.inner.write(buf),
+            Reader::Terminal => {
+                let shown = self.escaped(buf)?;
+                self.inner.write_all(&shown)?;
+                Ok(buf.len())
+            }
         }
-        let shown = self.escaped(buf)?;
-        self.inner.write_all(&shown)?;
-        Ok(buf.len())
     }
 
     fn flush(&mut self) -> io::Result<()> {

@@ -5,7 +5,7 @@ use Rattle.edge_io.specs.declared.proto.Proto.{Proto}
 use Rattle.edge_io.specs.declared.proto.Proto.TheVariants.{Relp, Lumberjack, Hec}
 use Rattle.event_form.specs.declared.talk.Talk.TheVariants.{NoMemory}
 use Rattle.conn_serve.specs.Serves.{CarriedAs}
-use Rattle.conn_serve.specs.Terms.{Terms, next_piece}
+use Rattle.conn_serve.specs.Terms.{Terms, next_piece, short_piece}
 use Rattle.conn_serve.proofs.RelpSessions as relp_sessions
 use Rattle.conn_serve.proofs.LumberSessions as lumber_sessions
 use Rattle.conn_serve.proofs.HecSessions as hec_sessions
@@ -17,14 +17,22 @@ none_carried Lumberjack terms conn left = lumber_sessions.none_carried conn left
 none_carried Hec terms conn left = hec_sessions.none_carried terms.tokens conn left
 
 -- a read asks for some bytes, and so does the next one
-some_of : (much full : Bool) (asked : ℕ) → 0 < asked → 0 < (if much then (if full then asked else 65536) else 8192)
-some_of true true asked some = some
-some_of true false asked some = omega arith
-some_of false full asked some = omega arith
+few_of : (few part : Bool) (asked : ℕ) → 0 < asked → 0 < (if few then (if part then asked else 8192) else 8192)
+few_of true true asked some = some
+few_of true false asked some = omega arith
+few_of false part asked some = omega arith
+
+short_some : (asked came : ℕ) → 0 < asked → 0 < short_piece asked came
+short_some asked came some = few_of (nat_lt asked 8192) (nat_lt came asked) asked some
+
+some_of : (much part : Bool) (asked short : ℕ) → 0 < asked → 0 < short → 0 < (if much then (if part then asked else 65536) else short)
+some_of true true asked short some less = some
+some_of true false asked short some less = omega arith
+some_of false part asked short some less = less
 
 pub asks_some : (group : Bool) (asked came : ℕ) → 0 < asked → 0 < next_piece group asked came
-asks_some true asked came some = some_of (nat_lt 4096 came) (nat_lt came asked) asked some
-asks_some false asked came some = omega arith
+asks_some true asked came some = some_of (nat_lt 4096 came) (nat_lt came asked) asked (short_piece asked came) some (short_some asked came some)
+asks_some false asked came some = short_some asked came some
 
 -- the memory of a read as it is fitted
 pub fits_some : (group : Bool) (asked came : ℕ) (old new : List ℕ) → 0 < length old → asked ≡ length old

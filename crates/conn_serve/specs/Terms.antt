@@ -13,11 +13,16 @@ abbrev pub most_of : Bool → ℕ
 most_of true = 512
 most_of false = 1
 
+-- How many bytes a short read asks for at most, after one that asked for so many and brought so many: as few as that one, as long as no
+-- read was full.
+abbrev pub short_piece : ℕ → ℕ → ℕ
+short_piece asked came = if nat_lt asked 8192 then (if nat_lt came asked then asked else 8192) else 8192
+
 -- How many bytes the next read asks for at most, after one that asked for so many and brought so many: few, unless the events of one
 -- piece are stored as one group and much comes.
 abbrev pub next_piece : Bool → ℕ → ℕ → ℕ
-next_piece false asked came = 8192
-next_piece true asked came = if nat_lt 4096 came then (if nat_lt came asked then asked else 65536) else 8192
+next_piece false asked came = short_piece asked came
+next_piece true asked came = if nat_lt 4096 came then (if nat_lt came asked then asked else 65536) else short_piece asked came
 
 -- those of its rules
 abbrev pub terms_of : Rules → Terms

@@ -6,7 +6,7 @@ ghost use Rattle.desk_access.specs.Endings.{IsAtMove};
 ghost use Rattle.conn_serve.specs.Done.{AreBytes, Done, Leads, LeadsOn, SoFar, Turn, told};
 ghost use Rattle.conn_serve.specs.Endings.{CountsFaults, MayEnd};
 ghost use Rattle.conn_serve.specs.Says.{HasCarried, MaySay};
-ghost use Rattle.conn_serve.specs.Terms.{next_piece};
+ghost use Rattle.conn_serve.specs.Terms.{next_piece, short_piece};
 
 use crate::connection::Connection;
 use crate::session::Session;
@@ -14,6 +14,9 @@ use desk_access::Access;
 use edge_io::{Link, ReadFault};
 use event_form::Talk;
 use std::alloc::{AllocError, Global};
+
+// How many bytes the reads of a connection ask for at most until one of them is full: more than a short event takes with its frame.
+const FIRST_PIECE: usize = 1_024;
 
 // How many bytes a read asks for at most.
 const PIECE: usize = 8_192;
@@ -27,9 +30,20 @@ const SHORT_PIECE: usize = 4_096;
 
 /// The memory that the first reads of a connection fill, each from its beginning. The only error is want of memory.
 pub fn buffer(alloc: Global) -> Result<Vec<u8>, AllocError>
-    ensures { IfOk result (λ buf. length buf.items ≡ 8192) }
+    ensures { IfOk result (λ buf. length buf.items ≡ 1024) }
 {
-    vec![in alloc; 0; PIECE]
+    vec![in alloc; 0; FIRST_PIECE]
+}
+
+// How many bytes a short read asks for at most, after one that asked for `asked` and brought `came`.
+fn short_piece(asked: usize, came: usize) -> usize
+    ensures { result ≡ short_piece asked came }
+{
+    if asked < PIECE && came < asked {
+        asked
+    } else {
+        PIECE
+    }
 }
 
 // How many bytes the next read asks for at most, after one that asked for `asked` and brought `came`.
@@ -37,7 +51,7 @@ fn next_piece(group: bool, asked: usize, came: usize) -> usize
     ensures { result ≡ next_piece group asked came }
 {
     if !group || came <= SHORT_PIECE {
-        PIECE
+        short_piece(asked, came)
     } else if came < asked {
         asked
     } else {

@@ -3,4 +3,6 @@ pub mod CountedFile
 pub mod FileDisk
 pub mod Held
 pub mod HeldLaws
+pub mod OpenDisk
+pub mod Opened
 pub mod Unopened

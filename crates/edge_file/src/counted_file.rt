@@ -19,6 +19,9 @@ impl CountedFile {
     pub(crate) fn new(opened: Opened) -> CountedFile
         ensures faults { result.faults ≡ 0 }
         ensures len { result.file.len ≡ opened.len }
+        ensures id { result.file.home.id ≡ opened.home.id }
+        ensures access { result.file.access ≡ opened.access }
+        ensures sharing { result.file.sharing ≡ opened.sharing }
     {
         CountedFile {
             file: TrackedFile::new(opened),

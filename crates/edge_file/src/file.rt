@@ -3,7 +3,7 @@
 ghost use Rattle.std.specs.Prelude.{◌≡◌, ◌⊎◌, ◌<◌, ◌^◌, IfOk};
 
 use crate::counted_file::CountedFile;
-use crate::opening::{Opened, make_file, open_file, open_read_only, open_two};
+use crate::opening::{Opened, make_file, open_beside, open_file, open_read_only, open_two};
 use crate::{OpenFault, PairFault, Sharing, WholePages};
 use edge_disk::{Disk, DiskFault};
 
@@ -26,6 +26,9 @@ pub struct FileDisk {
 
 impl FileDisk {
     ghost use Rattle.edge_file.specs.FileDisk.{file_moment};
+    ghost use Rattle.edge_file.specs.OpenDisk.{IsOpenAs, AreTwoFiles};
+    ghost use Rattle.edge_file.specs.declared.open_fault.Sharing.TheVariants.{Exclusive, Shared};
+    ghost use Rattle.edge_file.specs.declared.unlocked.Access.TheVariants.{ToRead, ToWrite};
 
     /// Opens a file that exists, to read and write, for this program alone. A fault says that this failed,
     /// for whatever cause.
@@ -58,7 +61,8 @@ impl FileDisk {
         path: &str,
         sharing: Sharing,
     ) -> Result<FileDisk, OpenFault>
-        ensures { IfOk result (λ disk. (file_moment disk).faults ≡ 0) }
+        ensures faults { IfOk result (λ disk. (file_moment disk).faults ≡ 0) }
+        ensures open { IfOk result (IsOpenAs ToWrite sharing) }
     {
         let opened = open_file(rt, path, sharing)?;
         Ok(disk_of(opened))
@@ -66,7 +70,8 @@ impl FileDisk {
 
     /// Opens a file that exists to be read alone, beside others that share it, and says why it isn't opened. A write to it is a fault.
     pub fn open_to_read(rt: &HostRuntime, path: &str) -> Result<FileDisk, OpenFault>
-        ensures { IfOk result (λ disk. (file_moment disk).faults ≡ 0) }
+        ensures faults { IfOk result (λ disk. (file_moment disk).faults ≡ 0) }
+        ensures open { IfOk result (IsOpenAs ToRead Shared) }
     {
         let opened = open_read_only(rt, path)?;
         Ok(disk_of(opened))
@@ -82,9 +87,29 @@ impl FileDisk {
         first: &str,
         second: &str,
     ) -> Result<(FileDisk, FileDisk), PairFault>
-        ensures { IfOk result (λ disks. ((file_moment disks.0).faults ≡ 0) × ((file_moment disks.1).faults ≡ 0)) }
+        ensures faults { IfOk result (λ disks. ((file_moment disks.0).faults ≡ 0) × ((file_moment disks.1).faults ≡ 0)) }
+        ensures first { IfOk result (λ disks. IsOpenAs ToWrite Exclusive disks.0) }
+        ensures second { IfOk result (λ disks. IsOpenAs ToWrite Exclusive disks.1) }
+        ensures two { IfOk result (λ disks. AreTwoFiles disks.0 disks.1) }
     {
-        let [one, other] = open_two(rt, first, second)?;
+        let (one, other) = open_two(rt, first, second)?;
+        Ok((disk_of(one), disk_of(other)))
+    }
+
+    /// Opens two files that exist, the first as [`FileDisk::open_to_read`] does and the second as [`FileDisk::open`] does, for this program
+    /// alone, and says why they aren't opened: the first before the second, and `OneFile` where both names are of one file, also by a link, or
+    /// of one block device. They are locked in the order of [`FileDisk::open_both`].
+    pub fn open_beside(
+        rt: &HostRuntime,
+        first: &str,
+        second: &str,
+    ) -> Result<(FileDisk, FileDisk), PairFault>
+        ensures faults { IfOk result (λ disks. ((file_moment disks.0).faults ≡ 0) × ((file_moment disks.1).faults ≡ 0)) }
+        ensures first { IfOk result (λ disks. IsOpenAs ToRead Shared disks.0) }
+        ensures second { IfOk result (λ disks. IsOpenAs ToWrite Exclusive disks.1) }
+        ensures two { IfOk result (λ disks. AreTwoFiles disks.0 disks.1) }
+    {
+        let (one, other) = open_beside(rt, first, second)?;
         Ok((disk_of(one), disk_of(other)))
     }
 
@@ -93,6 +118,7 @@ impl FileDisk {
     pub fn make_locked(rt: &HostRuntime, path: &str, len: u64) -> Result<FileDisk, OpenFault>
         ensures faults { IfOk result (λ disk. (file_moment disk).faults ≡ 0) }
         ensures size { IfOk result (λ disk. (file_moment disk).size ≡ len ⊎ 0 < (file_moment disk).size) }
+        ensures open { IfOk result (IsOpenAs ToWrite Exclusive) }
     {
         let opened = make_file(rt, path, len)?;
         Ok(disk_of(opened))
@@ -102,6 +128,9 @@ impl FileDisk {
 fn disk_of(opened: Opened) -> FileDisk
     ensures faults { result.pages.disk.faults ≡ 0 }
     ensures len { result.pages.disk.file.len ≡ opened.len }
+    ensures id { result.pages.disk.file.home.id ≡ opened.home.id }
+    ensures access { result.pages.disk.file.access ≡ opened.access }
+    ensures sharing { result.pages.disk.file.sharing ≡ opened.sharing }
 {
     FileDisk {
         pages: WholePages::new(CountedFile::new(opened)),

@@ -1,4 +1,6 @@
 //! Where a file stands.
+ghost use Rattle.std.specs.Prelude.{◌≡◌, IfOk};
+
 use crate::file_id::FileId;
 use std::alloc::AllocError;
 use std::io::{self, ErrorKind};
@@ -21,7 +23,9 @@ impl Home {
     }
 
     /// The file that was opened by this path. The error says that no memory was found.
-    pub(crate) fn new(rt: &HostRuntime, path: &str, id: FileId) -> Result<Home, AllocError> {
+    pub(crate) fn new(rt: &HostRuntime, path: &str, id: FileId) -> Result<Home, AllocError>
+        ensures { IfOk result (λ home. home.id ≡ id) }
+    {
         Ok(Home {
             rt: *rt,
             path: String::from_str(rt.alloc(), path)?,

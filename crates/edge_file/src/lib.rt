@@ -15,6 +15,7 @@ mod limits;
 mod open_fault;
 mod opening;
 mod tracked_file;
+mod unlocked;
 mod unsynced;
 mod whole_pages;
 
@@ -23,5 +24,6 @@ pub use file::FileDisk;
 pub use home::Home;
 pub use limits::is_over_limit;
 pub use open_fault::{OpenFault, PairFault, Sharing};
+pub use unlocked::Access;
 pub use unsynced::Unsynced;
 pub use whole_pages::WholePages;

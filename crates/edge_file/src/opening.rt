@@ -1,31 +1,21 @@
 //! How a file is opened as a disk: its lock, its length, and its name in its folder.
 ghost use Rattle.std.specs.Prelude.{◌≡◌, ◌⊎◌, ◌<◌, IfOk};
+ghost use Rattle.edge_file.specs.Opened.{IsHeld, IsHeldAs, AreTwo};
+ghost use Rattle.edge_file.specs.declared.open_fault.Sharing.TheVariants.{Exclusive, Shared};
+ghost use Rattle.edge_file.specs.declared.unlocked.Access.TheVariants.{ToRead, ToWrite};
 
 use crate::claim::{Claim, lock};
 use crate::file_id::FileId;
 use crate::home::Home;
 use crate::limits::is_over_limit;
 use crate::tracked_file::end_of;
-use crate::{OpenFault, PairFault, Sharing};
+use crate::unlocked::Unlocked;
+use crate::{Access, OpenFault, PairFault, Sharing};
 use std::fs::{self, File, OpenOptions};
 use std::io;
 use std::os::fd::AsRawFd;
-use std::os::unix::fs::{FileTypeExt, OpenOptionsExt};
+use std::os::unix::fs::FileTypeExt;
 use std::path::Path;
-
-// Who may read and write a file that is made: its owner alone, since it holds what senders log.
-const MODE: u32 = 0o600;
-
-// The file, which is not locked. It is made where it isn't there and `create` says so; then only its owner may read and
-// write it, from the first moment on.
-fn open_unlocked(rt: &HostRuntime, path: &str, create: bool) -> io::Result<File> {
-    let mut options = OpenOptions::new();
-    options.read(true);
-    options.write(true);
-    options.create(create);
-    options.mode(MODE);
-    options.open(rt, path)
-}
 
 /// A file or a block device that is open, and locked as long as this is held.
 #[derive(Drop)]
@@ -37,18 +27,18 @@ pub(crate) struct Opened {
     pub home: Home,
     /// What is locked of a block device beside its node.
     pub claim: Claim,
+    /// What it was opened for.
+    pub access: Access,
+    /// With whom it is shared.
+    pub sharing: Sharing,
 }
 
-/// A file that exists, locked. What a read gives is what the disk holds.
-pub(crate) fn open_file(
-    rt: &HostRuntime,
-    path: &str,
-    sharing: Sharing,
-) -> Result<Opened, OpenFault> {
-    let file = open_unlocked(rt, path, false)?;
-    let opened = hold(rt, path, file, sharing)?;
-    settle(&opened.file)?;
-    Ok(opened)
+/// A file that exists, to be read and written, and locked. What a read gives is what the disk holds.
+pub(crate) fn open_file(rt: &HostRuntime, path: &str, sharing: Sharing) -> Result<Opened, OpenFault>
+    ensures { IfOk result (IsHeldAs ToWrite sharing) }
+{
+    let unlocked = Unlocked::open(rt, path, Access::ToWrite, false)?;
+    hold_settled(rt, path, unlocked, sharing)
 }
 
 /// The file, locked for this program alone, and made where it isn't there; then only its owner may read and write it, from the first
@@ -56,37 +46,41 @@ pub(crate) fn open_file(
 /// holds.
 pub(crate) fn make_file(rt: &HostRuntime, path: &str, len: u64) -> Result<Opened, OpenFault>
     ensures size { IfOk result (λ opened. opened.len ≡ len ⊎ 0 < opened.len) }
+    ensures held { IfOk result (IsHeldAs ToWrite Exclusive) }
 {
-    let file = open_unlocked(rt, path, true)?;
-    let mut opened = hold(rt, path, file, Sharing::Exclusive)?;
+    let unlocked = Unlocked::open(rt, path, Access::ToWrite, true)?;
+    let mut opened = hold(rt, path, unlocked, Sharing::Exclusive)?;
     opened.len = set_length(&opened.file, opened.len, len)?;
     settle(&opened.file)?;
     sync_folder(rt, path)?;
     Ok(opened)
 }
 
-/// A file or a block device that exists, opened to be read alone and locked beside others that share it. Anything else isn't opened: to
-/// open a pipe would wait for whoever writes to it. What a read gives is what the system's memory has, also where the disk doesn't.
-pub(crate) fn open_read_only(rt: &HostRuntime, path: &str) -> Result<Opened, OpenFault> {
-    let metadata = fs::metadata(rt, path)?;
-    if metadata.is_dir() {
-        return Err(OpenFault::IsFolder);
-    }
-    if !metadata.is_file() && !metadata.file_type().is_block_device() {
-        return Err(OpenFault::NoFile);
-    }
-    let mut options = OpenOptions::new();
-    options.read(true);
-    let file = options.open(rt, path)?;
-    hold(rt, path, file, Sharing::Shared)
+/// A file or a block device that exists, opened to be read alone and locked beside others that share it. What a read gives is what the
+/// system's memory has, also where the disk doesn't.
+pub(crate) fn open_read_only(rt: &HostRuntime, path: &str) -> Result<Opened, OpenFault>
+    ensures { IfOk result (IsHeldAs ToRead Shared) }
+{
+    let unlocked = Unlocked::open_to_read(rt, path)?;
+    hold_settled(rt, path, unlocked, Sharing::Shared)
 }
 
 // Locks a file that was opened by this path.
-fn hold(rt: &HostRuntime, path: &str, file: File, sharing: Sharing) -> Result<Opened, OpenFault> {
-    let mut file = file;
+fn hold(
+    rt: &HostRuntime,
+    path: &str,
+    unlocked: Unlocked,
+    sharing: Sharing,
+) -> Result<Opened, OpenFault>
+    ensures { IfOk result (IsHeld unlocked sharing) }
+{
+    let Unlocked {
+        mut file,
+        id,
+        access,
+    } = unlocked;
     lock(&file, sharing)?;
     let len = len_of(&mut file)?;
-    let id = FileId::of(&file)?;
     if matches!(id, FileId::File { .. }) && sharing == Sharing::Exclusive && is_over_limit(len) {
         return Err(OpenFault::OverLimit);
     }
@@ -97,7 +91,25 @@ fn hold(rt: &HostRuntime, path: &str, file: File, sharing: Sharing) -> Result<Op
         len,
         home,
         claim,
+        access,
+        sharing,
     })
+}
+
+// The same; and what a read gives of a file that may be written is what the disk holds.
+fn hold_settled(
+    rt: &HostRuntime,
+    path: &str,
+    unlocked: Unlocked,
+    sharing: Sharing,
+) -> Result<Opened, OpenFault>
+    ensures { IfOk result (IsHeld unlocked sharing) }
+{
+    let opened = hold(rt, path, unlocked, sharing)?;
+    if opened.access == Access::ToWrite {
+        settle(&opened.file)?;
+    }
+    Ok(opened)
 }
 
 // Has a read of the file give what the disk holds. A program that was killed while the disk was failing may have left in the system's memory
@@ -115,42 +127,99 @@ fn settle(file: &File) -> Result<(), OpenFault> {
     Ok(())
 }
 
-// A file that exists, not locked, and which it is.
-fn open_known(rt: &HostRuntime, path: &str) -> io::Result<(File, FileId)> {
-    let file = open_unlocked(rt, path, false)?;
-    let id = FileId::of(&file)?;
-    Ok((file, id))
+// A file that is open, and is to be locked, shared so.
+#[derive(Drop)]
+struct Wanted {
+    unlocked: Unlocked,
+    sharing: Sharing,
 }
 
-// The file that was opened by this path, locked for this program alone.
-fn hold_alone(rt: &HostRuntime, path: &str, file: File) -> Result<Opened, OpenFault> {
-    let opened = hold(rt, path, file, Sharing::Exclusive)?;
-    settle(&opened.file)?;
-    Ok(opened)
+impl Wanted {
+    // Locks the file, which was opened by this path.
+    fn hold(self, rt: &HostRuntime, path: &str) -> Result<Opened, OpenFault>
+        ensures { IfOk result (IsHeld self.unlocked self.sharing) }
+    {
+        hold_settled(rt, path, self.unlocked, self.sharing)
+    }
 }
 
-/// Two files that exist, each locked for this program alone. Which of them is locked first depends on the files alone, and not on which is
-/// named first.
+// Locks two files, which were opened by these paths, unless they are one. Which of them is locked first depends on the files alone, and not on
+// which is named first.
+fn hold_two(
+    rt: &HostRuntime,
+    paths: [&str; 2],
+    one: Wanted,
+    other: Wanted,
+) -> Result<(Opened, Opened), PairFault>
+    ensures first { IfOk result (λ two. IsHeld one.unlocked one.sharing two.0) }
+    ensures second { IfOk result (λ two. IsHeld other.unlocked other.sharing two.1) }
+    ensures two { IfOk result (λ two. AreTwo two.0 two.1) }
+{
+    let [first, second] = paths;
+    if one.unlocked.id == other.unlocked.id {
+        return Err(PairFault::OneFile);
+    }
+    if one.unlocked.id < other.unlocked.id {
+        let one = one.hold(rt, first).map_err(PairFault::First)?;
+        let other = other.hold(rt, second).map_err(PairFault::Second)?;
+        return Ok((one, other));
+    }
+    let other = other.hold(rt, second).map_err(PairFault::Second)?;
+    let one = one.hold(rt, first).map_err(PairFault::First)?;
+    Ok((one, other))
+}
+
+// A file that exists, opened to be read and written by this program alone, and not locked yet.
+fn wanted_alone(rt: &HostRuntime, path: &str) -> Result<Wanted, OpenFault>
+    ensures { IfOk result (λ wanted. (wanted.unlocked.access ≡ ToWrite) × (wanted.sharing ≡ Exclusive)) }
+{
+    let unlocked = Unlocked::open(rt, path, Access::ToWrite, false)?;
+    Ok(Wanted {
+        unlocked,
+        sharing: Sharing::Exclusive,
+    })
+}
+
+// A file that exists, opened to be read alone, beside others that share it, and not locked yet.
+fn wanted_to_read(rt: &HostRuntime, path: &str) -> Result<Wanted, OpenFault>
+    ensures { IfOk result (λ wanted. (wanted.unlocked.access ≡ ToRead) × (wanted.sharing ≡ Shared)) }
+{
+    let unlocked = Unlocked::open_to_read(rt, path)?;
+    Ok(Wanted {
+        unlocked,
+        sharing: Sharing::Shared,
+    })
+}
+
+/// Two files that exist, to be read and written, each locked for this program alone.
 pub(crate) fn open_two(
     rt: &HostRuntime,
     first: &str,
     second: &str,
-) -> Result<[Opened; 2], PairFault> {
-    let (one, one_id) = open_known(rt, first).map_err(|error| PairFault::First(error.into()))?;
-    let (other, other_id) = open_known(rt, second).map_err(|error| PairFault::Second(
-        error.into(),
-    ))?;
-    if one_id == other_id {
-        return Err(PairFault::OneFile);
-    }
-    if one_id < other_id {
-        let one = hold_alone(rt, first, one).map_err(PairFault::First)?;
-        let other = hold_alone(rt, second, other).map_err(PairFault::Second)?;
-        return Ok([one, other]);
-    }
-    let other = hold_alone(rt, second, other).map_err(PairFault::Second)?;
-    let one = hold_alone(rt, first, one).map_err(PairFault::First)?;
-    Ok([one, other])
+) -> Result<(Opened, Opened), PairFault>
+    ensures first { IfOk result (λ two. IsHeldAs ToWrite Exclusive two.0) }
+    ensures second { IfOk result (λ two. IsHeldAs ToWrite Exclusive two.1) }
+    ensures two { IfOk result (λ two. AreTwo two.0 two.1) }
+{
+    let one = wanted_alone(rt, first).map_err(PairFault::First)?;
+    let other = wanted_alone(rt, second).map_err(PairFault::Second)?;
+    hold_two(rt, [first, second], one, other)
+}
+
+/// Two files that exist: the first opened to be read alone and locked beside others that share it, and the second to be read and written,
+/// locked for this program alone.
+pub(crate) fn open_beside(
+    rt: &HostRuntime,
+    first: &str,
+    second: &str,
+) -> Result<(Opened, Opened), PairFault>
+    ensures first { IfOk result (λ two. IsHeldAs ToRead Shared two.0) }
+    ensures second { IfOk result (λ two. IsHeldAs ToWrite Exclusive two.1) }
+    ensures two { IfOk result (λ two. AreTwo two.0 two.1) }
+{
+    let read = wanted_to_read(rt, first).map_err(PairFault::First)?;
+    let written = wanted_alone(rt, second).map_err(PairFault::Second)?;
+    hold_two(rt, [first, second], read, written)
 }
 
 // The length in bytes of a file or a block device, whose metadata has none. Anything else, as a pipe, has no length.

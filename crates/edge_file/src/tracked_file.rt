@@ -6,7 +6,7 @@ use crate::claim::Claim;
 use crate::held_part::PAGE;
 use crate::home::Home;
 use crate::opening::Opened;
-use crate::{ByteRange, Unsynced};
+use crate::{Access, ByteRange, Sharing, Unsynced};
 use std::fs::File;
 use std::io::{self, ErrorKind, Seek, SeekFrom};
 use std::os::unix::fs::FileExt;
@@ -29,6 +29,9 @@ pub(crate) struct TrackedFile {
     home: Home,
     // What is locked of a block device, as long as it is open.
     claim: Claim,
+    // What it was opened for, and with whom it is shared.
+    access: Access,
+    sharing: Sharing,
     unsynced: Unsynced,
     // A sync or a write failed, and what was written hasn't been made good since.
     is_failing: bool,
@@ -40,19 +43,26 @@ pub(crate) struct TrackedFile {
 impl TrackedFile {
     /// What was opened, of which nothing waits for a sync.
     pub(crate) fn new(opened: Opened) -> TrackedFile
-        ensures { result.len ≡ opened.len }
+        ensures len { result.len ≡ opened.len }
+        ensures id { result.home.id ≡ opened.home.id }
+        ensures access { result.access ≡ opened.access }
+        ensures sharing { result.sharing ≡ opened.sharing }
     {
         let Opened {
             file,
             len,
             home,
             claim,
+            access,
+            sharing,
         } = opened;
         TrackedFile {
             file,
             len,
             home,
             claim,
+            access,
+            sharing,
             unsynced: Unsynced::new(),
             is_failing: false,
             next_look: 0,

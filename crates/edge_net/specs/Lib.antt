@@ -4,7 +4,9 @@ pub mod Budget
 pub mod Ending
 pub mod Fullness
 pub mod Pace
+pub mod Heading
 pub mod Page
+pub mod Proxies
 pub mod Receiver
 pub mod Recent
 pub mod Standstill

@@ -20,3 +20,9 @@ write_errors_of link = link.write_errors
 pub record IsUnfailed {R : Type 0} (link : TcpLink R) : Type 0 where
   pub reads : read_errors_of link ≡ 0
   pub writes : write_errors_of link ≡ 0
+
+-- the same place, and no further read or write has failed
+pub record IsUnharmed {R : Type 0} (old new : TcpLink R) : Type 0 where
+  pub reads : read_errors_of new ≡ read_errors_of old
+  pub writes : write_errors_of new ≡ write_errors_of old
+  pub place : place_of new ≡ place_of old

@@ -111,6 +111,7 @@ impl<'a, R: Clock + Eprint> Door for TcpDoor<'a, R> {
     ///
     /// The first accept waits until all doors of the net have begun, for three seconds at most, and then reports the places
     /// of those that have not: the system refused them a thread.
+    #[inline(never)]
     fn accept(&mut self, conn: u64) -> Result<Option<TcpLink<'a, R>>, AcceptFault> {
         if !self.has_begun {
             self.has_begun = true;
@@ -138,6 +139,7 @@ impl<'a, R: Clock + Eprint> Door for TcpDoor<'a, R> {
     /// what was written last. For that it waits until the
     /// peer closes it too: little more than a second where that one is silent, and two seconds at most where it goes on sending.
     /// It takes no memory.
+    #[inline(never)]
     fn give_back(
         &mut self,
         link: TcpLink<'a, R>,

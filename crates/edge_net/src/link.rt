@@ -1,29 +1,26 @@
 //! A connection over TCP.
-ghost use Rattle.std.specs.Prelude.{◌≡◌, ◌≤◌, length, IfOk};
+ghost use Rattle.std.specs.Prelude.{◌≡◌, ◌<◌, ◌≤◌, length, IfOk};
+ghost use Rattle.edge_net.specs.declared.heading.Due.TheVariants as Due;
 
-use crate::budget::{Budget, Part, part_of};
+use crate::budget::{Part, part_of};
 use crate::closing::close_after_peer;
+use crate::heading::{Due, Headed, Unheaded, due_of, read_head};
+use crate::patience::{read_patiently, turn_of, turns_of, write_on};
 use crate::trouble::{Way, is_reset};
 use crate::watch::{Peer, Watch};
-use crate::{Reports, Waits};
+use crate::{LinkSettings, Reports, Waits};
 use edge_io::{Link, Object, Proto, ReadFault, Sink, Source, WriteFault};
 use event_form::Talk;
 use libc::net::{POLLIN, poll};
 use libc::types::pollfd;
-use std::io::{self, ErrorKind, Read, Write};
+use std::io::{self, ErrorKind};
 use std::net::TcpStream;
 use std::os::fd::AsRawFd;
 use std::rt::Clock;
 use std::time::Duration;
 
-// How many times a call is made, where signals interrupt it each time.
-const MOST_TRIES: u32 = 1_000;
-
 // How long a peer sends nothing that is said to be silent, in milliseconds.
 const SILENT_MILLIS: i32 = 1_000;
-
-// How long a sender may be silent whose connection takes much memory while another one waits for some, in seconds.
-const TURN_SECONDS: u64 = 10;
 
 /// A connection over TCP, that was dialed or accepted. It counts its errors and tells no bytes; standard error says what befell it
 /// ([`Reports`]). The link may be read and written by another thread than the one that made it.
@@ -38,27 +35,20 @@ pub struct TcpLink<'a, R> {
     part: Part,
     // How long a read or a write waits for the peer.
     wait: Duration,
+    // What is due of a proxy before the first byte.
+    due: Due,
     // The receiver has broken the connection off while it was written to. What it sent before can still be read.
     is_gone: bool,
     read_errors: u64,
     write_errors: u64,
 }
 
-/// What the system has set for the socket of a link.
-#[derive(Clone, Copy, PartialEq, Eq)]
-pub struct LinkSettings {
-    /// Each write goes out at once, and none is held back until more is written.
-    pub is_prompt: bool,
-    /// How long a read waits for the peer, or for as long as it likes.
-    pub read_wait: Option<Duration>,
-    /// How long a write waits for the peer, or for as long as it likes.
-    pub write_wait: Option<Duration>,
-}
-
 impl<'a, R> TcpLink<'a, R> {
     ghost use Rattle.std.specs.Prelude.{Some, None};
     ghost use Rattle.std.specs.Option.{option_map};
     ghost use Rattle.std.specs.String.{string_bytes};
+    ghost use Rattle.std.specs.Net.Socket.{socket_ip};
+    ghost use Rattle.edge_net.specs.Heading.{IsDue};
     ghost use Rattle.edge_net.specs.TcpLink.{place_of, read_errors_of, write_errors_of, IsUnfailed};
 
     // A link over the stream, of which a read or a write waits for its peer for as long as `wait` at most. An answer isn't held
@@ -74,6 +64,7 @@ impl<'a, R> TcpLink<'a, R> {
     ) -> TcpLink<'a, R>
         ensures unfailed { IsUnfailed result }
         ensures place { place_of result ≡ option_map string_bytes place }
+        ensures due { result.due ≡ Due.Nothing }
     {
         let _ = stream.set_nodelay(true);
         let _ = stream.set_read_timeout(Some(wait));
@@ -86,13 +77,15 @@ impl<'a, R> TcpLink<'a, R> {
             reports,
             part: Part::Nothing,
             wait,
+            due: Due::Nothing,
             is_gone: false,
             read_errors: 0,
             write_errors: 0,
         }
     }
 
-    /// The link of a connection that was accepted from this peer.
+    /// The link of a connection that was accepted from this peer. Where proxies are named, the peer has to be one of them and to send the
+    /// head of the PROXY protocol first; then the sender is the peer that it tells.
     pub(crate) fn accepted(
         rt: &'a R,
         reports: &'a Reports,
@@ -102,9 +95,12 @@ impl<'a, R> TcpLink<'a, R> {
     ) -> TcpLink<'a, R>
         ensures unfailed { IsUnfailed result }
         ensures place { place_of result ≡ None }
+        ensures due { IsDue reports.now.proxies (socket_ip peer.address) result.due }
     {
         let watch = Watch::of(rt, reports, Some(peer), waits.accepted);
-        TcpLink::over(rt, reports, stream, None, waits.accepted, watch)
+        let link = TcpLink::over(rt, reports, stream, None, waits.accepted, watch);
+        let due = due_of(&reports.proxies(), peer.address.ip());
+        TcpLink { due, ..link }
     }
 
     /// The link of a connection that was dialed at that place.
@@ -117,6 +113,7 @@ impl<'a, R> TcpLink<'a, R> {
     ) -> TcpLink<'a, R>
         ensures unfailed { IsUnfailed result }
         ensures place { place_of result ≡ Some (string_bytes place) }
+        ensures due { result.due ≡ Due.Nothing }
     {
         let watch = Watch::of(rt, reports, None, waits.dialed);
         TcpLink::over(rt, reports, stream, Some(place), waits.dialed, watch)
@@ -147,36 +144,24 @@ impl<'a, R> TcpLink<'a, R> {
 }
 
 impl<R> TcpLink<'_, R> {
-    // How long a call of the system waits for the peer: as long as the link does, or a turn of that where it takes much memory.
-    fn turn(&self) -> Duration {
-        match self.part {
-            Part::Many(_) => self.wait.min(Duration::from_secs(TURN_SECONDS)),
-            _ => self.wait,
-        }
-    }
-
-    // How many turns a read waits.
-    fn turns(&self) -> u64 {
-        match self.part {
-            Part::Many(_) => (self.wait.as_secs() / TURN_SECONDS).max(1),
-            _ => 1,
-        }
-    }
-
     // Notes that a read waited that many turns, where they are none of as long as the link waits.
     fn note_turns(&mut self, waited: u64)
         ensures errors { (self.new.read_errors ≡ self.old.read_errors) × (self.new.write_errors ≡ self.old.write_errors) }
         ensures place { self.new.place ≡ self.old.place }
     {
         if let Part::Many(_) = self.part {
-            let seconds = self.turn().as_secs().saturating_mul(waited);
+            let seconds = turn_of(self.part, self.wait)
+                .as_secs()
+                .saturating_mul(waited);
             self.watch.waited(Duration::from_secs(seconds));
         }
     }
 
     // Has the system wait for the peer as long as one turn takes. Where it doesn't grant that, a call waits as long as before.
     fn wait_in_turns(&self) {
-        let _ = self.stream.set_read_timeout(Some(self.turn()));
+        let _ = self
+            .stream
+            .set_read_timeout(Some(turn_of(self.part, self.wait)));
     }
 }
 
@@ -206,67 +191,84 @@ fn text_of(place: &Option<String>) -> Option<&str> {
     }
 }
 
-// A read of the stream, which is tried again where a signal interrupts it.
-fn read_on(stream: &mut TcpStream, buf: &mut [u8]) -> io::Result<usize>
-    ensures bound { IfOk result (λ n. n ≤ length buf.new) }
-    ensures len { length buf.new ≡ length buf.old }
-{
-    for _ in 1..MOST_TRIES {
-        match stream.read(buf) {
-            Err(error) if error.kind() == ErrorKind::Interrupted => {}
-            outcome => return outcome,
-        }
-    }
-    stream.read(buf)
-}
-
-// Whether a read waited for its peer in vain.
-fn is_silence(outcome: &io::Result<usize>) -> bool {
-    match outcome {
-        Err(error) => matches!(error.kind(), ErrorKind::WouldBlock | ErrorKind::TimedOut),
-        Ok(_) => false,
-    }
-}
-
-// A read of the stream, which waits in vain that often at most; but only once while a connection waits for memory. It gives how often it
-// waited with what came of it.
-fn read_patiently(
-    stream: &mut TcpStream,
-    budget: &Budget,
-    times: u64,
-    buf: &mut [u8],
-) -> (u64, io::Result<usize>)
-    ensures bound { IfOk result.1 (λ n. n ≤ length buf.new) }
-    ensures len { length buf.new ≡ length buf.old }
-{
-    for time in 1..times {
-        let outcome = read_on(stream, buf);
-        if !is_silence(&outcome) || budget.is_wanted() {
-            return (time, outcome);
-        }
-    }
-    (times, read_on(stream, buf))
-}
-
-// A write to the stream, which is tried again where a signal interrupts it.
-fn write_on(stream: &mut TcpStream, piece: &[u8]) -> io::Result<usize>
-    ensures bound { IfOk result (λ n. n ≤ length piece.now) }
-{
-    for _ in 1..MOST_TRIES {
-        match stream.write(piece) {
-            Err(error) if error.kind() == ErrorKind::Interrupted => {}
-            outcome => return outcome,
-        }
-    }
-    stream.write(piece)
-}
-
 impl<R> Object for TcpLink<'_, R> {
     ghost same = { λ _ _. Unit {0} };
 
     ghost same_refl = { λ _. tt };
 
     ghost same_trans = { λ _ _ _ _ _. tt };
+}
+
+impl<R: Clock + Eprint> TcpLink<'_, R> {
+    ghost use Rattle.edge_net.specs.Heading.{IsPassed, IsTaken, IsSentBy, source_of};
+    ghost use Rattle.edge_net.specs.TcpLink.{IsUnharmed};
+
+    // A read of the stream, before which the head comes that is due of a proxy. It gives how often it waited with what came of it. It gives
+    // bytes only once nothing is due.
+    fn read_next(&mut self, buf: &mut [u8]) -> (u64, io::Result<usize>)
+        ensures bound { IfOk result.1 (λ n. n ≤ length buf.new) }
+        ensures len { length buf.new ≡ length buf.old }
+        ensures head { IfOk result.1 (λ n. 0 < n → self.new.due ≡ Due.Nothing) }
+        ensures kept { IsUnharmed self.old self.new }
+    {
+        match self.pass_head() {
+            Ok(true) => {
+                let times = turns_of(self.part, self.wait);
+                read_patiently(&mut self.stream, self.reports.budget(), times, buf)
+            }
+            Ok(false) => (1, Ok(0)),
+            Err(error) => (1, Err(error)),
+        }
+    }
+
+    // Reads the head of a proxy where one is due, and says whether the connection goes on. Where none comes whole, the connection is never
+    // read again.
+    fn pass_head(&mut self) -> io::Result<bool>
+        ensures passed { IsPassed self.old.due self.new.due result }
+        ensures kept { IsUnharmed self.old self.new }
+    {
+        match self.due {
+            Due::Nothing => Ok(true),
+            Due::Head => {
+                self.due = Due::Ended;
+                let headed = read_head(self.rt, &mut self.stream, self.wait)?;
+                self.take_head(headed)
+            }
+            Due::Refused => self.take_head(Headed::Not(Unheaded::Stranger)),
+            Due::Ended => Err(io::Error::from(ErrorKind::InvalidData)),
+        }
+    }
+
+    // Takes what came where a head was due. That none came is said.
+    fn take_head(&mut self, headed: Headed) -> io::Result<bool>
+        ensures taken { IsTaken headed self.old.due self.new.due result }
+        ensures sender { IsSentBy (source_of headed) self.old.watch.peer self.new.watch.peer }
+        ensures kept { IsUnharmed self.old self.new }
+    {
+        match headed {
+            Headed::Whole(source) => {
+                self.due = Due::Nothing;
+                self.watch.is_sent_by(source);
+                Ok(true)
+            }
+            Headed::Empty => {
+                self.due = Due::Head;
+                Ok(false)
+            }
+            Headed::Not(why) => {
+                self.watch.is_unheaded(why);
+                Err(io::Error::from(ErrorKind::InvalidData))
+            }
+        }
+    }
+
+    // Notes what a read gave that asked for some bytes, once nothing is due.
+    fn note_bytes(&mut self, bytes: &[u8])
+        requires { self.old.due ≡ Due.Nothing }
+        ensures { IsUnharmed self.old self.new }
+    {
+        self.watch.saw_read(text_of(&self.place), bytes)
+    }
 }
 
 impl<R: Clock + Eprint> Source for TcpLink<'_, R> {
@@ -289,12 +291,11 @@ impl<R: Clock + Eprint> Source for TcpLink<'_, R> {
     /// its side. A call that a signal interrupts is made again, up to 1,000 times. Each other error is a fault, and so is a wait in
     /// vain. It waits for ten seconds at most where the connection takes more memory than a short read needs, and another one waits for some.
     fn read(&mut self, buf: &mut [u8]) -> Result<usize, ReadFault> {
-        let times = self.turns();
-        let (waited, outcome) = read_patiently(&mut self.stream, self.reports.budget(), times, buf);
+        let (waited, outcome) = self.read_next(buf);
         match outcome {
             Ok(n) => {
-                if !buf.is_empty() {
-                    self.watch.saw_read(text_of(&self.place), &buf[..n]);
+                if !buf.is_empty() && self.due == Due::Nothing {
+                    self.note_bytes(&buf[..n]);
                 }
                 Ok(n)
             }
@@ -373,9 +374,9 @@ impl<R: Clock + Eprint> Link for TcpLink<'_, R> {
             reports
                 .budget()
                 .exchange(rt, self.part, part, reports.is_quiet());
-            let before = self.turn();
+            let before = turn_of(self.part, self.wait);
             self.part = part;
-            if self.turn() != before {
+            if turn_of(self.part, self.wait) != before {
                 self.wait_in_turns();
             }
         }
@@ -395,12 +396,3 @@ impl<R: Clock + Eprint> Link for TcpLink<'_, R> {
 
     ghost writes_keep = { λ x y same. (Prim.cc, Prim.cc, same.0, same.1) };
 }
-
-// A link, what accepts it, and a monitor may be moved to another thread: each impl below owes the proof.
-trait Movable: Send {}
-
-impl<R: Sync> Movable for TcpLink<'_, R> {}
-
-impl<R: Sync> Movable for crate::TcpDoor<'_, R> {}
-
-impl<R: Sync> Movable for crate::TcpMonitor<'_, R> {}

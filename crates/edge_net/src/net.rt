@@ -1,15 +1,17 @@
 //! A net over TCP.
-ghost use Rattle.std.specs.Prelude.{◌≡◌, ◌<◌, IfOk, IfSome, All, length};
-ghost use Rattle.edge_io.specs.Door.{IsNewDoor};
+ghost use Rattle.std.specs.Prelude.{◌≡◌};
 ghost use Rattle.edge_io.specs.Net.{SameHung, HasNetCause};
-ghost use Rattle.edge_net.specs.TcpDoor.{state_of as door_state};
 
+use crate::dialing::connected;
 use crate::door::Shared;
+use crate::doors::doors_over;
+use crate::listening::{Listening, listening_at};
 use crate::roll::{Place, Roll};
+use crate::since::seconds_now;
 use crate::{Manager, Reports, TcpDoor, TcpLink, TcpMonitor, Waits};
 use edge_io::{HeldUp, Net, NetFault, Object, Pause};
 use std::alloc::{AllocError, Global};
-use std::net::{self, TcpListener, TcpStream, ToSocketAddrs};
+use std::net::{self, TcpListener, TcpStream};
 use std::rt::Clock;
 use std::sync::Arc;
 use std::time::Duration;
@@ -25,26 +27,6 @@ const SHORT: u32 = 1;
 
 // After how many twentieths of a second of waiting the places that lack a thread are reported: after three seconds.
 const ROLL_REPORT: u32 = 60;
-
-// A socket that listens, for which no doors were asked yet.
-#[derive(Drop)]
-struct Listening {
-    // The place as it was named.
-    place: String,
-    listener: TcpListener,
-}
-
-// Which of them is at the place, if one is.
-fn listening_at(listening: &[Listening], place: &str) -> Option<usize>
-    ensures { IfSome result (λ at. at < length listening.now) }
-{
-    for at in 0..listening.len() {
-        if listening[at].place.as_str() == place {
-            return Some(at);
-        }
-    }
-    None
-}
 
 /// The sockets of the system. A place is an address of IP or the name of a host, a colon and a port. A bind listens
 /// at the first of the host's addresses that can be bound, a dial connects to the first that answers.
@@ -192,50 +174,6 @@ impl<R: Clock + Eprint> Pause for TcpNet<'_, R> {
     ghost pause_refl = { λ _. Prim.cc };
 
     ghost pause_trans = { λ x y z p q. Prim.cc };
-}
-
-// So many doors of the one socket: each accepts the connections that the others don't.
-fn doors_over<'a, R>(
-    alloc: Global,
-    place: &str,
-    count: usize,
-    shared: &Shared<'a, R>,
-) -> Result<Vec<TcpDoor<'a, R>>, AllocError>
-    ensures count { IfOk result (λ made. length made.items ≡ count) }
-    ensures fresh { IfOk result (λ made. All (λ door. IsNewDoor place.now (door_state door)) made.items) }
-{
-    let mut made = Vec::with_capacity(alloc, count)?;
-    'doors: while made.len() < count {
-        let name = String::from_str(alloc, place)?;
-        let theirs = shared.try_clone()?;
-        made.push_reserved(TcpDoor::at(name, theirs));
-    }
-    Ok(made)
-}
-
-// When it is, in seconds since 1970; 0 without a clock.
-fn seconds_now(rt: &impl Clock) -> u64 {
-    match rt.since_1970() {
-        Ok(since) => since.as_secs(),
-        Err(_) => 0,
-    }
-}
-
-// Connects to the first of the host's addresses that answers, and waits for each for as long as `wait` at most. The error is that of
-// the last one.
-fn connected<R: net::Net<Stream = TcpStream>>(
-    rt: &R,
-    place: &str,
-    wait: Duration,
-) -> io::Result<TcpStream> {
-    let mut last = io::Error::other("its host has no address");
-    for address in place.to_socket_addrs(rt)? {
-        match TcpStream::connect_timeout(rt, &address, wait) {
-            Ok(stream) => return Ok(stream),
-            Err(error) => last = error,
-        }
-    }
-    Err(last)
 }
 
 impl<R: Clock + Eprint> TcpNet<'_, R> {

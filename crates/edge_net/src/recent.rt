@@ -1,6 +1,7 @@
 //! About which senders a line was printed lately, and what was left unsaid.
 ghost use Rattle.std.specs.Prelude.{◌≡◌, ◌↔◌, ◌<◌, ◌≤◌, ◌+◌, ◌^◌, ◌⊎◌, Some, IsTrue, IfSome, IfNone, IsSomeAnd, MatchOption, slice_get};
 
+use crate::heading::Unheaded;
 use crate::{Matter, Pace, Topic, Trouble};
 use event_form::Talk;
 use std::fmt;
@@ -69,6 +70,13 @@ fn same_line(one: Option<usize>, other: Option<usize>) -> bool
     one == other
 }
 
+// Whether both lack a head for the same reason.
+fn same_lack(one: Unheaded, other: Unheaded) -> bool
+    ensures { IsTrue result ↔ (one ≡ other) }
+{
+    one == other
+}
+
 // Whether the same befell both.
 fn same_matter(one: Matter, other: Matter) -> bool
     ensures { IsTrue result ↔ (one ≡ other) }
@@ -96,6 +104,9 @@ fn same_matter(one: Matter, other: Matter) -> bool
         (Matter::FrameRefused { code }, Matter::FrameRefused { code: other_code }) => {
             code == other_code
         }
+        (Matter::Unheaded { why }, Matter::Unheaded { why: other_why }) => same_lack(
+            why, other_why,
+        ),
         (
             Matter::Ended {
                 proto,

@@ -8,7 +8,8 @@ use crate::page::{pending_of, room_of};
 use crate::since::millis;
 use crate::token_places::{Standing, line_of};
 use crate::{
-    FileCounts, Illness, Line, Matter, Receiver, Recent, Since, Standstill, TokenFile, Topic,
+    FileCounts, Illness, Line, Matter, Proxies, Receiver, Recent, Since, Standstill, TokenFile,
+    Topic,
 };
 use edge_io::{HeldUp, SpoolNumbers};
 use std::net::SocketAddr;
@@ -38,6 +39,7 @@ pub struct Reports {
     overlooked: AtomicU64,
     counts: Counts,
     budget: Budget,
+    proxies: Proxies,
 }
 
 // What a line about the receiver stands for beside what it says.
@@ -113,6 +115,7 @@ impl Reports {
             overlooked: AtomicU64::new(0),
             counts: Counts::new(),
             budget: Budget::new(STANDARD_MEMORY),
+            proxies: Proxies::none(),
         }
     }
 
@@ -125,6 +128,21 @@ impl Reports {
             budget: Budget::new(bytes),
             ..self
         }
+    }
+
+    /// The same, where senders come through these proxies.
+    pub fn with_proxies(self, proxies: Proxies) -> Reports
+        ensures quiet { result.is_quiet ≡ self.is_quiet }
+        ensures proxies { result.proxies ≡ proxies }
+    {
+        Reports { proxies, ..self }
+    }
+
+    /// The proxies through which senders come, or none.
+    pub(crate) fn proxies(&self) -> Proxies
+        ensures { result ≡ self.now.proxies }
+    {
+        self.proxies
     }
 
     /// The same of a program of that version, which those are told who ask for numbers.

@@ -1,4 +1,4 @@
-//! Since when something fails.
+//! What time it is, and since when something fails.
 use std::io;
 use std::rt::Clock;
 use std::sync::atomic::{AtomicU64, Ordering};
@@ -10,6 +10,14 @@ const SECOND: u64 = 1_000;
 pub(crate) fn millis(rt: &impl Clock) -> io::Result<u64> {
     let now = rt.monotonic()?.as_millis();
     Ok(u64::try_from(now).unwrap_or(u64::MAX))
+}
+
+/// When it is, in seconds since 1970; 0 without a clock.
+pub(crate) fn seconds_now(rt: &impl Clock) -> u64 {
+    match rt.since_1970() {
+        Ok(since) => since.as_secs(),
+        Err(_) => 0,
+    }
 }
 
 /// Since when something fails, which threads note and ask for.

@@ -1,9 +1,11 @@
 //! What is said of a sender: which one it is, and what befell its connection.
 use crate::Trouble;
 use crate::ending::{Ending, kind_of};
+use crate::heading::Unheaded;
 use crate::reason::Reason;
 use edge_io::Proto;
 use event_form::Talk;
+use proxy_head::HeadFault;
 use std::fmt;
 use std::net::IpAddr;
 
@@ -21,6 +23,10 @@ pub enum Matter {
     /// A frame of RELP was answered with this code, which says that it was refused.
     FrameRefused {
         code: u16,
+    },
+    /// It was ended before its first byte, since senders come through proxies and this came through none, or since the proxy sent no head.
+    Unheaded {
+        why: Unheaded,
     },
     /// It ended otherwise than well: by which protocol it spoke, the exit status that stands for its ending, the ending, and what went
     /// wrong in a call of the system, if one failed.
@@ -57,6 +63,11 @@ impl Matter {
                 status,
                 talk: kind_of(talk),
                 trouble,
+            },
+            Matter::Unheaded {
+                why: Unheaded::Wrong(HeadFault { why, .. }),
+            } => Matter::Unheaded {
+                why: Unheaded::Wrong(HeadFault { at: 0, why }),
             },
             other => other,
         }
@@ -101,6 +112,22 @@ impl fmt::Display for Matter {
                 write!(f, "a request was refused with {code}")
             }
             Matter::FrameRefused { code } => write!(f, "a frame was refused with {code}"),
+            Matter::Unheaded {
+                why: Unheaded::Stranger,
+            } => write!(
+                f,
+                "its connection was ended: it isn't one of the proxies that --accept-proxy names"
+            ),
+            Matter::Unheaded { why: Unheaded::Cut } => write!(
+                f,
+                "its connection was ended: it ended within the head that a proxy sends first"
+            ),
+            Matter::Unheaded {
+                why: Unheaded::Wrong(fault),
+            } => write!(
+                f,
+                "its connection was ended: it doesn't begin with the head that a proxy sends first: {fault}"
+            ),
             Matter::Ended {
                 proto,
                 status,

@@ -1,11 +1,16 @@
 //! What is seen of a connection, for the lines about it.
+ghost use Rattle.std.specs.Prelude.{◌≡◌, IsTrue, IsSome};
+ghost use Rattle.edge_net.specs.Heading.{IsSentBy};
+
 use crate::answer::{closes, reason_in};
 use crate::authorized::Authorized;
 use crate::ending::explains;
+use crate::heading::Unheaded;
 use crate::trouble::Way;
 use crate::{Answer, Illness, Matter, Reports, Trouble};
 use edge_io::Proto;
 use event_form::Talk;
+use proxy_head::Source;
 use std::io;
 use std::net::SocketAddr;
 use std::rt::Clock;
@@ -29,6 +34,8 @@ struct Refused {
     line: Option<usize>,
 }
 
+// What says something of a connection is kept out of line: a thread that waits in a read would else hold on its stack what it takes to
+// write a line.
 /// What is seen of a connection, and where it is said. It changes nothing of the connection.
 #[derive(Drop)]
 pub(crate) struct Watch<'a, R> {
@@ -79,7 +86,35 @@ impl<'a, R> Watch<'a, R> {
     }
 }
 
+impl<R> Watch<'_, R> {
+    /// The head of a proxy told the sender, if it did: that is the peer from now on.
+    pub(crate) fn is_sent_by(&mut self, source: Option<Source>)
+        ensures { IsSentBy source self.old.peer self.new.peer }
+    {
+        if let (Some(Source { ip, port }), Some(Peer { conn, .. })) = (source, self.peer) {
+            let address = SocketAddr::new(ip, port);
+            self.peer = Some(Peer { address, conn });
+        }
+    }
+}
+
 impl<R: Clock + Eprint> Watch<'_, R> {
+    /// The connection is ended since it has no head of a proxy. That is said once.
+    #[inline(never)]
+    pub(crate) fn is_unheaded(&mut self, why: Unheaded)
+        ensures peer { self.new.peer ≡ self.old.peer }
+        ensures said { IsSome self.old.peer → IsTrue self.new.is_said }
+    {
+        let Some(peer) = self.peer else {
+            return;
+        };
+        if !self.is_said {
+            self.is_said = true;
+            let matter = Matter::Unheaded { why };
+            self.reports.sender(self.rt, peer.address, matter);
+        }
+    }
+
     // Says that the receiver fails, once for a connection.
     fn fails(&mut self, place: &str, illness: Illness) {
         if !self.is_said {
@@ -98,6 +133,7 @@ impl<R: Clock + Eprint> Watch<'_, R> {
     }
 
     // Bytes came. Of the first ones of a connection that was accepted it is said which number it has, where that is asked for.
+    #[inline(never)]
     fn note_read(&mut self) {
         if self.has_read {
             return;
@@ -109,6 +145,7 @@ impl<R: Clock + Eprint> Watch<'_, R> {
     }
 
     /// A read that asked for some bytes gave these. Where the connection was dialed, `place` is where.
+    #[inline(never)]
     pub(crate) fn saw_read(&mut self, place: Option<&str>, bytes: &[u8]) {
         if !bytes.is_empty() {
             self.note_read();
@@ -138,6 +175,7 @@ impl<R: Clock + Eprint> Watch<'_, R> {
     }
 
     /// A write took so many bytes of this piece. A refusal after which the connection ends is said with its end.
+    #[inline(never)]
     pub(crate) fn saw_write(&mut self, piece: &[u8], taken: usize) {
         let Some(peer) = self.peer else {
             return self.reports.counts().sent.add_many(taken as u64);
@@ -171,6 +209,7 @@ impl<R: Clock + Eprint> Watch<'_, R> {
     }
 
     /// A read or a write failed by this error.
+    #[inline(never)]
     pub(crate) fn saw_error(&mut self, place: Option<&str>, error: &io::Error, way: Way) {
         let trouble = Trouble::of(error, way, self.wait);
         self.trouble = Some(trouble);
@@ -185,6 +224,7 @@ impl<R: Clock + Eprint> Watch<'_, R> {
 
     /// A connection that was accepted was served to its end by this protocol, and ended so, which this exit status stands for. What it was
     /// refused at last is said now, with how it ended where that is why.
+    #[inline(never)]
     pub(crate) fn ended(&self, proto: Proto, status: u8, talk: Talk) {
         let Some(peer) = self.peer else {
             return;

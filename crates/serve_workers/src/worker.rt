@@ -113,6 +113,8 @@ fn serve_all<P: Door, S: Seat>(
 impl<P: Door, S: Seat> Worker<P, S> {
     /// Serves the links of its door, one after another, and notes in its report why it ended: the door is shut for good, `talks` links
     /// were served, an accept failed, or no memory was found to give a link back.
+    // It is kept out of line: each step by which the threads are made would else take as much stack as it does.
+    #[inline(never)]
     pub(crate) fn work(&mut self, alloc: Global, talks: u32)
         requires ready { IsReady S.of_run self.old.number (S.knows self.old.seat) }
         requires talks { talks ≤ each_of S.of_run.division }

@@ -1,15 +1,15 @@
-mod Results
-mod ReadOn
+pub mod Results
+pub mod ReadOn
 mod Turning
-mod Growing
-mod Outside
+pub mod Growing
+pub mod Outside
 mod Taking
 mod Giving
 mod Rising
 mod Present
 mod Looking
 mod Standing
-mod Pages
+pub mod Pages
 mod Copies
 mod Walks
 mod Steps

@@ -10,7 +10,7 @@ use spool_log::Numbered;
 const FIRST_CONNECTION: u64 = 9_223_372_036_854_775_808;
 
 /// The connection number of the entries that are moved with this tag.
-pub(crate) fn connection(tag: u32) -> u64
+pub fn connection(tag: u32) -> u64
     ensures { result ≡ connection_of tag }
 {
     FIRST_CONNECTION + u64::from(tag)

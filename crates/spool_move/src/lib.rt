@@ -13,6 +13,8 @@ mod moving;
 mod presence;
 mod walking;
 
+pub use entry::connection;
 pub use fault::MoveFault;
 pub use laws::runs_lose_nothing;
 pub use moving::move_pending;
+pub use walking::take_one;

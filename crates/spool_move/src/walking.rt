@@ -5,3 +5,4 @@ mod pages;
 mod taking;
 
 pub(crate) use pages::move_all;
+pub use taking::take_one;

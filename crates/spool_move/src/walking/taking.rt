@@ -18,7 +18,7 @@ use spool_log::{Numbered, Spool, TakeFault};
 use std::collections::BTreeSet;
 
 /// The target takes the entry as it is moved with this tag, as a group of its own.
-fn take_one<E: Disk>(target: &mut Spool<E>, tag: u32, one: Numbered) -> Result<(), TakeFault>
+pub fn take_one<E: Disk>(target: &mut Spool<E>, tag: u32, one: Numbered) -> Result<(), TakeFault>
     requires limits { IsEntry one.entry }
 
     ensures calls { Calls (IsErrOf result TakeFault.DiskFault) (E.moment target.old.disk) (E.moment target.new.disk) }

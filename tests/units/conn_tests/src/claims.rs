@@ -7,8 +7,8 @@ use std::process::Abort;
 // A connection, and how many bytes it claims last, and at most.
 type Row = (Proto, &'static str, u64, u64);
 
-// What each takes, what a few bytes more do, and the whole by each protocol. A frame of 20,000 bytes comes in reads of 8,192. A burst of
-// 9,057 bytes has the next read ask for more; after a short one the next asks for less again. So it does after a long one where the sender
+// What each takes, what a few bytes more do, and the whole by each protocol. A frame of 20,000 bytes comes in reads of 1,024 and 8,192. A burst
+// of 10,025 bytes has the next read ask for more; after a short one the next asks for less again. So it does after a long one where the sender
 // is silent since. A body that is refused by its head isn't held, and comes in reads of 8,192, where a run of events is stored as one group
 // too.
 const ROWS: &[Row] = &[
@@ -21,7 +21,7 @@ const ROWS: &[Row] = &[
     ),
     (
         Proto::Relp,
-        "group 1\nslot 100000\nin 1 open 0\\n\nin 2 syslog 9000 \\{9000}\\n",
+        "group 1\nslot 100000\nin 1 open 0\\n\nin 2 syslog 10000 \\{10000}\\n",
         16_384,
         524_288,
     ),

@@ -32,7 +32,7 @@ fn check(rt: &impl Abort, alloc: Global, proto: Proto, row: &str, step: usize) {
     let (fewest, most) = left.asked;
     let is_long = is_grouped(rt, row) && most == 65_536;
     assert!(rt;
-        fewest == 8_192 && (most == 8_192 || is_long),
+        fewest == 1_024 && (most == 1_024 || most == 8_192 || is_long),
         "reads of other lengths in {row}"
     );
 }

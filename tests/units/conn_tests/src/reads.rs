@@ -10,7 +10,7 @@ const MOST_CALLS: u64 = 40;
 
 const MOST_TEXTS: u64 = 8;
 
-// So many `syslog` frames whose data have that many bytes, which two reads bring: one of 8,192 bytes, and a long one. How many calls of the disk store
+// So many `syslog` frames whose data have that many bytes, which three reads bring: of 1,024 bytes, of 8,192, and a long one. How many calls of the disk store
 // them, and how many texts answer them and the `open`.
 struct Burst {
     events: u64,
@@ -19,20 +19,20 @@ struct Burst {
     texts: u64,
 }
 
-// 57,903 bytes, whose first 71 events are one group and the other 429 the next one; and 62,903, of which the long read brings 522 events, the
+// 57,903 bytes, of which the reads bring 8, 72 and 420 events, each one group; and 63,953, of which they bring 9, 79 and 522, of these the
 // first 512 one group, and the other 10 the next one.
 const BURSTS: &[Burst] = &[
     Burst {
         events: 500,
         size: 100,
-        calls: 8,
-        texts: 3,
-    },
-    Burst {
-        events: 600,
-        size: 90,
         calls: 12,
         texts: 4,
+    },
+    Burst {
+        events: 610,
+        size: 90,
+        calls: 16,
+        texts: 5,
     },
 ];
 
@@ -93,18 +93,18 @@ fn texts_of(rt: &impl Abort, alloc: Global, burst: &Burst) -> u64 {
     panic!(rt; "more texts than a row writes")
 }
 
-/// A read asks for 8,192 bytes at first, and for 65,536 after one that was full. All events that one brings are stored and answered before
-/// the next one, the third of which fails here; up to 512 of them by four calls of the disk, and in one text.
+/// A read asks for 1,024 bytes at first, for 8,192 after one that was full, and then for 65,536. All events that one brings are stored and
+/// answered before the next one, the fourth of which fails here; up to 512 of them by four calls of the disk, and in one text.
 pub(crate) fn one_read_brings_long_runs(rt: &impl Abort, alloc: Global) {
     for burst in BURSTS {
-        let row = row_of(rt, alloc, burst, "reads 2");
+        let row = row_of(rt, alloc, burst, "reads 3");
         let left = serve_burst(rt, alloc, &row, &[]).expect(rt, "not opened");
         let Attended { talk, taken } = left.attended;
         assert!(rt;
             talk == Talk::ReadFault && taken == burst.events,
             "{taken} taken"
         );
-        assert!(rt; left.asked == (8_192, 65_536), "reads of other lengths");
+        assert!(rt; left.asked == (1_024, 65_536), "reads of other lengths");
         check_bytes(rt, alloc, &row, "out", &left.written);
         check_bytes(rt, alloc, &row, "entries", &left.entries);
         let calls = calls_of(rt, alloc, &row);

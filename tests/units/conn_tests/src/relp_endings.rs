@@ -24,13 +24,13 @@ out 2 rsp 6 200 OK\n
 entries 7 0 2 rfirst\n
 
 row a read of more bytes than one asks for
-- A read asks for at most 8,192 bytes, however many would come: the second event ends with one byte more.
+- Two reads ask for 1,024 bytes and for 8,192, however many would come: the second event ends with one byte more.
 in 1 open 50 relp_version=0\nrelp_software=a,1,b\ncommands=syslog\n
 in 2 syslog 5 first\n
-in 3 syslog 8100 \{8100}\n
+in 3 syslog 9124 \{9124}\n
 steps 100000
 slot 65536
-reads 1
+reads 2
 ends ReadFault, 1 taken
 out 1 rsp 66 200 OK\nrelp_version=0\nrelp_software=bridge,1,local\ncommands=syslog\n
 out 2 rsp 6 200 OK\n

@@ -31,14 +31,14 @@ entries 7 0 2 rfirst\n
 entries 7 1 3 rsecond\n
 
 row a read of more bytes than one asks for
-- A read asks for at most 65,536 bytes, however many would come: the second event ends with one byte more.
+- Three reads ask for 1,024 bytes, 8,192 and 65,536, however many would come: the second event ends with one byte more.
 in 1 open 50 relp_version=0\nrelp_software=a,1,b\ncommands=syslog\n
 in 2 syslog 5 first\n
-in 3 syslog 65443 \{65443}\n
+in 3 syslog 74659 \{74659}\n
 group 1
 steps 100000
 slot 131072
-reads 1
+reads 3
 ends ReadFault, 1 taken
 out 1 rsp 66 200 OK\nrelp_version=0\nrelp_software=bridge,1,local\ncommands=syslog\n
 out 2 rsp 6 200 OK\n

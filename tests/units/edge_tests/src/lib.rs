@@ -23,6 +23,8 @@ mod nets;
 #[cfg(test)]
 mod pages;
 #[cfg(test)]
+mod proxied;
+#[cfg(test)]
 mod ranges;
 #[cfg(test)]
 mod said;

@@ -1,7 +1,7 @@
 //! All that holds of bytes, numbers, streams, nets and disks.
 use crate::{
-    accepts, bytes, disks, files, lines, marks, monitors, nets, pages, ranges, said, scraped,
-    sockets, streams, waits,
+    accepts, bytes, disks, files, lines, marks, monitors, nets, pages, proxied, ranges, said,
+    scraped, sockets, streams, waits,
 };
 use std::alloc::Global;
 use std::process::Abort;
@@ -34,6 +34,7 @@ fn nets_and_disks(rt: &impl Abort, alloc: Global) {
     ranges::ranges_are_what_was_written(rt);
     ranges::ranges_have_room_for_64(rt);
     lines::lines_are_few_and_count_the_rest(rt, alloc);
+    proxied::proxies_are_named(rt);
 }
 
 #[test]
@@ -55,6 +56,12 @@ fn links_and_doors(rt: HostRuntime) {
     waits::links_wait_for_a_while(&rt, &rt);
     accepts::accepts_fail_and_pass(&rt, alloc, &rt);
     said::the_net_says_what_befalls_it(&rt, alloc, &rt);
+}
+
+#[test]
+fn senders_behind_proxies(rt: HostRuntime) {
+    proxied::heads_come_first(&rt, &rt);
+    proxied::what_has_no_head_is_never_read(&rt, &rt);
 }
 
 #[test]

@@ -1,10 +1,12 @@
 //! All that holds of streams, of sessions and of senders.
 use crate::sending::{hec, lumber, relp};
-use crate::{receiving, streams};
+use crate::{heads, receiving, streams};
 
 #[test]
 fn streams_sessions_and_senders(rt: HostRuntime) {
     let alloc = rt.alloc();
+    heads::heads(&rt, alloc);
+    heads::long_lines(&rt, alloc);
     streams::relp::streams(&rt, alloc);
     streams::relp::longest_bodies(&rt, alloc);
     streams::lumber::streams(&rt, alloc);

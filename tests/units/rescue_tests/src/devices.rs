@@ -19,8 +19,8 @@ pub(crate) fn copied(rt: &impl Abort, alloc: Global, bytes: &[u8]) -> Vec<u8> {
     bytes.to_vec(alloc).expect(rt, "memory")
 }
 
-// An entry with a text of 1,000 times this byte.
-fn entry(rt: &impl Abort, alloc: Global, byte: u8) -> Entry
+/// An entry with a text of 1,000 times this byte.
+pub(crate) fn entry_of(rt: &impl Abort, alloc: Global, byte: u8) -> Entry
     ensures { IsEntry result }
 {
     let text = vec![in alloc; byte; 1000].expect(rt, "memory");
@@ -52,15 +52,46 @@ fn take_one(rt: &impl Abort, spool: &mut Spool<MemDisk>, one: Entry)
     spool.take(&[one]).ok().expect(rt, "a taken entry");
 }
 
+/// A new spool of three slots.
+pub(crate) fn opened_new(rt: &impl Abort, alloc: Global) -> Spool<MemDisk> {
+    opened(rt, alloc, formatted(rt, alloc))
+}
+
+// The spool on the disk, which is one.
+fn opened(rt: &impl Abort, alloc: Global, disk: MemDisk) -> Spool<MemDisk> {
+    match Spool::recover(alloc, disk, Opening::Keep) {
+        Ok(spool) => spool,
+        Err(_) => panic!(rt; "no spool"),
+    }
+}
+
+/// The pending entries of the spool on a device, each as `NUMBER CONNECTION INDEX UNIT LETTER`, and LF.
+pub(crate) fn pending(rt: &impl Abort, alloc: Global, device: &[u8]) -> String {
+    let disk = MemDisk::of(copied(rt, alloc, device), Vec::new(alloc));
+    let mut spool = opened(rt, alloc, disk);
+    let mut text = String::new(alloc);
+    for one in &spool.pending(0, 100).ok().expect(rt, "entries") {
+        let entry = &one.entry;
+        let letter = match entry.event.text.bytes() {
+            [first, ..] => char::from(*first),
+            [] => '-',
+        };
+        write!(
+            text,
+            "{} {} {} {} {letter}\n",
+            one.number, entry.conn, entry.index, entry.unit
+        )
+        .expect(rt, "memory");
+    }
+    text
+}
+
 /// The device of a spool of three slots, with three entries in each of the first two and one in the last: their texts are `a` to `g`, 1,000
 /// times each.
 pub(crate) fn device(rt: &impl Abort, alloc: Global) -> Vec<u8> {
-    let mut spool = match Spool::recover(alloc, formatted(rt, alloc), Opening::Keep) {
-        Ok(spool) => spool,
-        Err(_) => panic!(rt; "no spool"),
-    };
+    let mut spool = opened_new(rt, alloc);
     for byte in b"abcdefg" {
-        let one = entry(rt, alloc, *byte);
+        let one = entry_of(rt, alloc, *byte);
         take_one(rt, &mut spool, one);
     }
     copied(rt, alloc, spool.into_disk().bytes())

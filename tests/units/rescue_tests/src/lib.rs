@@ -9,4 +9,6 @@ mod devices;
 #[cfg(test)]
 mod failing;
 #[cfg(test)]
+mod restoring;
+#[cfg(test)]
 mod tests;

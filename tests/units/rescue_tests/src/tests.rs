@@ -4,6 +4,7 @@ use crate::damage::{
     headers_are_replaced, numbers_order_slots, short_devices_have_slots, whole_slots_are_printed,
 };
 use crate::failing::{a_write_fails, each_read_fails, each_read_of_a_front_fails};
+use crate::restoring::{each_call_fails, each_stop_leaves_a_front, what_is_found_is_stored};
 
 #[test]
 fn damage(rt: HostRuntime) {
@@ -23,4 +24,12 @@ fn what_fails(rt: HostRuntime) {
     a_write_fails(&rt, alloc);
     each_read_fails(&rt, alloc);
     each_read_of_a_front_fails(&rt, alloc);
+}
+
+#[test]
+fn into_another_spool(rt: HostRuntime) {
+    let alloc = rt.alloc();
+    what_is_found_is_stored(&rt, alloc);
+    each_stop_leaves_a_front(&rt, alloc);
+    each_call_fails(&rt, alloc);
 }

@@ -40,11 +40,11 @@ loop-post-preserved g c =
     let post = first_at c.args.posts.items c.args.passes.items (length c.loop-post.yielded) (c.in-Some.post, c.in-Some.pass) turn.0 ∙ ap (λ z. Some z.0) (sym turn.1) in
     let says = subst (λ (n : ℕ). MayAnswer seat.is_real seat.start seat.of_run n (g.P.Door.permits c.in-Some.post.door) c.in-Some.post.rules) (sym i.number) (c.requires.says (length c.loop-post.yielded) c.in-Some.post post) in
     record {
-      doors = pushed (λ w. w.door) (λ y. y.0.door) _ _ _ c.loop-post.yielded (c.in-Some.post, c.in-Some.pass) p.items i.doors refl;
-      rules = pushed (λ w. w.rules) (λ y. y.0.rules) _ _ _ c.loop-post.yielded (c.in-Some.post, c.in-Some.pass) p.items i.rules refl;
-      passes = pushed (λ w. seat.knows w.seat) (λ y. seat.pass_knows y.1) _ _ _ c.loop-post.yielded (c.in-Some.post, c.in-Some.pass) p.items i.passes sits;
-      ready = ready_pushed (λ w. IsReady seat.of_run w.number (seat.knows w.seat)) _ _ _ p.items i.ready ready;
-      says = ready_pushed (λ w. MayAnswer seat.is_real seat.start seat.of_run w.number (g.P.Door.permits w.door) w.rules) _ _ _ p.items i.says says;
+      doors = pushed (λ w. w.door) (λ y. y.0.door) c.loop-post.workers.items c.push_reserved.new.self.items _ c.loop-post.yielded (c.in-Some.post, c.in-Some.pass) p.items i.doors refl;
+      rules = pushed (λ w. w.rules) (λ y. y.0.rules) c.loop-post.workers.items c.push_reserved.new.self.items _ c.loop-post.yielded (c.in-Some.post, c.in-Some.pass) p.items i.rules refl;
+      passes = pushed (λ w. seat.knows w.seat) (λ y. seat.pass_knows y.1) c.loop-post.workers.items c.push_reserved.new.self.items _ c.loop-post.yielded (c.in-Some.post, c.in-Some.pass) p.items i.passes sits;
+      ready = ready_pushed (λ w. IsReady seat.of_run w.number (seat.knows w.seat)) c.loop-post.workers.items c.push_reserved.new.self.items _ p.items i.ready ready;
+      says = ready_pushed (λ w. MayAnswer seat.is_real seat.start seat.of_run w.number (g.P.Door.permits w.door) w.rules) c.loop-post.workers.items c.push_reserved.new.self.items _ p.items i.says says;
       many = omega (arith, p.len, i.many, length-append c.loop-post.yielded ((c.in-Some.post, c.in-Some.pass) ∷ []));
       number = omega (arith, i.number, length-append c.loop-post.yielded ((c.in-Some.post, c.in-Some.pass) ∷ []));
       room = omega (arith, p.capacity, i.room);
@@ -82,3 +82,9 @@ returns-clause-passes g c =
     let passes = YieldsList-from_vec {s = it.b} c.args.passes.items (ap (λ z. z.b.rest.items) d ∙ b.second.0) (ap (λ z. z.b.rest.len) d ∙ b.second.1 ∙ c.args.passes.ok.0) in
     let end = YieldsList-end (YieldsList-from_zip {s = it} posts passes) c.loop-post.yielded c.loop-post.post-iterator c.loop-post.yielded_by c.next.result c.next.new.self c.in-None.is c.next.ensures.steps in
     c.loop-post.invariant.passes ∙ seconds g.S.Seat.pass_knows c.loop-post.yielded c.args.posts.items c.args.passes.items end.0 (omega (arith, c.args.posts.ok.0, c.args.passes.ok.0, c.requires.many.0))
+
+pub returns-clause-says : goal.returns-clause-says
+returns-clause-says g c = c.loop-post.invariant.says
+
+pub returns-clause-ready : goal.returns-clause-ready
+returns-clause-ready g c = c.loop-post.invariant.ready

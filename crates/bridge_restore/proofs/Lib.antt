@@ -1,0 +1,6 @@
+mod Joining
+mod Parts
+mod Slots
+mod Ending
+mod Seeing
+mod Finishing
