@@ -1,6 +1,7 @@
 pub mod Acting
 pub mod Faults
 mod Leading
+mod Going
 mod Saying
 mod Fronts
 mod Handling

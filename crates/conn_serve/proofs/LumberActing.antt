@@ -1,13 +1,16 @@
 -- What was done for a frame of Lumberjack.
-use Rattle.std.proofs.Common.{◌≡◌, inr, ℕ, ◌+◌, ◌≤◌, ◌∙◌, true, false, List, [], ◌∷◌, ◌++◌, Option, length, refl, sym, ap, subst, arith, length-append}
-use Rattle.std.specs.Prelude.{Result, Ok, Err, OnOk}
+use Rattle.std.proofs.Common.{◌≡◌, inr, ℕ, ◌+◌, ◌^◌, ◌<◌, ◌≤◌, ◌∙◌, true, false, List, [], ◌∷◌, ◌++◌, length, take, refl, sym, ap, subst, arith, length-append}
+use Rattle.std.specs.Prelude.{Result, Ok, Err, OnOk, IfErr, IsErr}
+use Rattle.std.specs.Io.KnownBytes.{Appends}
 use Rattle.std.specs.List.{All}
 use Rattle.std.proofs.lemmas.List.{append-nil}
 use Rattle.std.proofs.lemmas.List.Elements.{All-nil, All-cons}
 use Rattle.edge_io.proofs.Known.{appends_none}
 use Rattle.event_form.specs.declared.event.Entry.{Entry}
 use Rattle.event_form.specs.declared.talk.Talk.{Talk}
+use Rattle.event_form.specs.declared.talk.Talk.TheVariants.{WriteFault}
 use Rattle.lumber_frame.specs.declared.frame.LumberFrame.{LumberFrame}
+use Rattle.lumber_frame.specs.Spelling.{ack_text}
 use Rattle.lumber_session.specs.declared.act.LumberAct.{LumberAct}
 use Rattle.lumber_session.specs.declared.act.LumberAct.TheVariants.{Nothing, Stage, CommitFirst}
 use Rattle.lumber_session.specs.Acts.{Tells, commits}
@@ -18,12 +21,17 @@ use Rattle.spool_faults.specs.declared.fault.TakeFault.{TakeFault}
 use Rattle.spool_faults.specs.declared.fault.TakeFault.TheVariants.{TooLarge, Spent, Full, NotSpool, NoMemory, DiskFault}
 use Rattle.desk_access.specs.Batch.{AreNext}
 use Rattle.desk_access.specs.Call.{Call, takes, taken_of, TookSurely}
+use Rattle.desk_access.specs.Endings.{IsAtMove}
+use Rattle.conn_serve.specs.declared.connection.Connection.{Connection}
 use Rattle.conn_serve.specs.Groups.{IsFrameEntry}
-use Rattle.conn_serve.specs.Done.{Done, Leads, SoFar}
+use Rattle.conn_serve.specs.Done.{Leads, SoFar}
+use Rattle.conn_serve.specs.Endings.{CountsFaults}
+use Rattle.conn_serve.specs.Went.{GoesOn, HaltsBy, Telling, Went}
 use Rattle.conn_serve.specs.Relp.{talk_of}
 use Rattle.conn_serve.specs.Lumber.{lumberjack, StoresGroup, EndsAtGroup, entries_of}
 use Rattle.conn_serve.specs.Handled.{Handled}
 use Rattle.conn_serve.specs.LumberServing.{Handles, HaltsAtFrame, stages, last_behind}
+use Rattle.conn_serve.proofs.Faults.{counts_as, counts_none, fault_at_move, fault_is_whole}
 use Rattle.conn_serve.proofs.Batching.{next_conn, entries_count, entries_next, handles_few, handles_on, handled_batch, handles_batch, handles_stop, now_staged}
 
 -- after a group that was taken, the next one may be
@@ -39,16 +47,65 @@ group_refused group seq (NotSpool at) = (NotSpool at, refl, refl, refl)
 group_refused group seq NoMemory = (NoMemory, refl, refl, refl)
 group_refused group seq DiskFault = (DiskFault, refl, refl, refl)
 
-pub done_refused : (ran : List Call → Type 0) (w : Option (List ℕ)) (n n' : ℕ) (group group' : List Entry) → group' ≡ group → (seq : ℕ) (fault : TakeFault) (talk : Talk) → ran (takes group' (Err fault) ∷ []) → n' ≡ n → talk ≡ talk_of fault
-    → Done ran w w n n' (λ late part. EndsAtGroup group seq late part talk)
-done_refused ran w n n' group group' handed seq fault talk made same is = record {
-  calls = takes group (Err fault) ∷ [];
-  text = [];
-  made = subst (λ (g : List Entry). ran (takes g (Err fault) ∷ [])) handed made;
-  wrote = appends_none w;
-  counted = omega (arith, same);
-  is = subst (λ (t : Talk). EndsAtGroup group seq (takes group (Err fault) ∷ []) [] t) (sym is) (group_refused group seq fault);
+-- so the connection halts, and nothing was written
+pub halts_refused : {L A : Type 0} (tell : Telling L A) (link : L) (access access' : A) (was now : Connection) (group group' : List Entry) → group' ≡ group → (seq : ℕ) (fault : TakeFault) (talk : Talk)
+    → tell.2.ran access (takes group' (Err fault) ∷ []) access' → now ≡ was → talk ≡ talk_of fault → tell.0.write_apart link link → HaltsBy tell (link, access, was) (link, access', now) (λ e late part. EndsAtGroup group seq late part e) talk
+halts_refused tell link access access' was now group group' handed seq fault talk made stays is apart = record {
+  went = record {
+    calls = takes group (Err fault) ∷ [];
+    text = [];
+    made = subst (λ (g : List Entry). tell.2.ran access (takes g (Err fault) ∷ []) access') handed made;
+    wrote = appends_none (tell.0.taken link);
+    counted = omega (arith, ap (λ (x : Connection). x.taken) stays);
+    is = subst (λ (t : Talk). EndsAtGroup group seq (takes group (Err fault) ∷ []) [] t) (sym is) (group_refused group seq fault);
+    number = ap (λ (x : Connection). x.number) stays;
+    writes = counts_none _ _ _ (λ e. fault_is_whole fault (sym is ∙ e)) refl;
+    same = tell.1.same_refl link;
+    apart = apart;
+  };
+  at_move = subst IsAtMove (sym is) (fault_at_move fault);
 }
+
+-- a take that was answered by no fault took the group
+pub took_ok : (ran : List Call → Type 0) (r : Result Receipt TakeFault) (group handed : List Entry) (was now : Connection) (May : Type 0) → handed ≡ group → ((e : TakeFault) → r ≡ Err e → ⊥) → ran (takes handed r ∷ []) → OnOk r (now ≡ record was { taken = was.taken + length handed }) → OnOk r May
+    → (receipt : Receipt) × ran (takes group (Ok receipt) ∷ []) × (now ≡ record was { taken = was.taken + length group }) × May
+took_ok ran (Ok receipt) group handed was now May is other made next may = (receipt, subst (λ (es : List Entry). ran (takes es (Ok receipt) ∷ [])) is made, subst (λ (es : List Entry). now ≡ record was { taken = was.taken + length es }) is next, may)
+took_ok ran (Err e) group handed was now May is other made next may = absurd (other e refl)
+
+-- A group was taken, and its acknowledgment was said, or a part of it.
+module _ {L A : Type 0} (tell : Telling L A) (link link' : L) (access access' : A) (was now : Connection) (group : List Entry) (receipt : Receipt) (made : tell.2.ran access (takes group (Ok receipt) ∷ []) access')
+    (next : now ≡ record was { taken = was.taken + length group }) (seq : ℕ) (small : seq < 2 ^ 32) (text : List ℕ) (spelled : text ≡ ack_text seq) (same : tell.1.same link link') (apart : tell.0.write_apart link link') where
+  went_said : (Failed : Type 0) (Is : List Call → List ℕ → Type 0) (part : List ℕ) → Appends (tell.0.taken link) (tell.0.taken link') part → CountsFaults Failed (tell.0.write_faults link) (tell.0.write_faults link') → Is (takes group (Ok receipt) ∷ []) part
+      → Went tell (link, access, was) (link', access', now) Failed Is
+  went_said Failed Is part wrote writes is = record {
+    calls = takes group (Ok receipt) ∷ [];
+    text = part;
+    made = made;
+    wrote = wrote;
+    counted = omega (arith, ap (λ (x : Connection). x.taken) next, length-append group []);
+    is = is;
+    number = ap (λ (x : Connection). x.number) next;
+    writes = writes;
+    same = same;
+    apart = apart;
+  }
+
+  pub goes_said : (r : Result (Unit {0}) Talk) → OnOk r (Appends (tell.0.taken link) (tell.0.taken link') text) → CountsFaults (IsErr r) (tell.0.write_faults link) (tell.0.write_faults link') → tell.2.may_take access' was.number now.taken
+      → OnOk r (GoesOn tell (link, access, was) (link', access', now) (StoresGroup group seq))
+  goes_said (Ok x) wrote writes may = record { went = went_said ⊥ (StoresGroup group seq) text wrote (counts_none _ _ _ (λ none. none) (writes.quiet (λ e. cc))) (receipt, refl, spelled, small); may = may }
+  goes_said (Err e) wrote writes may = tt
+
+  pub halts_said : (r : Result (Unit {0}) Talk) → IfErr r (λ talk. (talk ≡ WriteFault) × ((k : ℕ) × (k < length text) × Appends (tell.0.taken link) (tell.0.taken link') (take k text)))
+      → CountsFaults (IsErr r) (tell.0.write_faults link) (tell.0.write_faults link') → IfErr r (HaltsBy tell (link, access, was) (link', access', now) (λ e late part. EndsAtGroup group seq late part e))
+  halts_said (Ok x) part writes = tt
+  halts_said (Err e) part writes =
+      let k = part.1.0 in
+      let cut : EndsAtGroup group seq (takes group (Ok receipt) ∷ []) (take k text) WriteFault = (receipt, k, refl, subst (λ (t : List ℕ). k < length t) spelled part.1.1, ap (take k) spelled, small) in
+      record {
+        went = went_said (e ≡ WriteFault) (λ late said. EndsAtGroup group seq late said e) (take k text) part.1.2 (counts_as _ _ _ _ (λ is. refl) (λ is. part.0) writes)
+            (subst (λ (t : Talk). EndsAtGroup group seq (takes group (Ok receipt) ∷ []) (take k text) t) (sym part.0) cut);
+        at_move = subst IsAtMove (sym part.0) tt;
+      }
 
 stages_few : (act : LumberAct) → length (stages act) ≤ 1
 stages_few Nothing = omega arith
@@ -71,19 +128,12 @@ module _ (n conn : ℕ) (core core' : Core) (entries entries' : List Entry) (las
       subst (AreNext conn n) (sym is) (subst (λ (k : ℕ). AreNext conn n (entries_of conn k events)) so.counted (entries_next conn n events))
 
   -- no batch ends with it
-  pub frame_on : (ran : List Call → Type 0) (w : Option (List ℕ)) → ran [] → ((frames : List LumberFrame) → IsBehind frames core → IsBehind (frames ++ f ∷ []) core') → core'.due ≡ commits act → commits act ≡ false → (All IsFrameEntry entries → All IsFrameEntry entries')
-      → Done ran w w n n (λ calls text. (frames : List LumberFrame) → Leads n (λ fed called said. Handles conn core entries last frames called said) (λ fed called said. Handles conn core' entries' last' (frames ++ f ∷ []) called said) calls text)
-  frame_on ran w none behind due on limits = record {
-    calls = [];
-    text = [];
-    made = none;
-    wrote = appends_none w;
-    counted = omega arith;
-    is = λ frames fed called said counted h.
-        subst (λ (l : List Call). Handles conn core' entries' last' (frames ++ f ∷ []) l (said ++ [])) (sym (append-nil called))
-        (subst (λ (l : List ℕ). Handles conn core' entries' last' (frames ++ f ∷ []) called l) (sym (append-nil said))
-        (handles_on conn core entries entries' last last' n frames called said f act h (tells frames h.behind) counted entries_are last_is core' (behind frames h.behind) (due ∙ on) on (limits h.limits)));
-  }
+  pub frame_on : ((frames : List LumberFrame) → IsBehind frames core → IsBehind (frames ++ f ∷ []) core') → core'.due ≡ commits act → commits act ≡ false → (All IsFrameEntry entries → All IsFrameEntry entries')
+      → (frames : List LumberFrame) → Leads n (λ fed called said. Handles conn core entries last frames called said) (λ fed called said. Handles conn core' entries' last' (frames ++ f ∷ []) called said) [] []
+  frame_on behind due on limits = λ frames fed called said counted h.
+      subst (λ (l : List Call). Handles conn core' entries' last' (frames ++ f ∷ []) l (said ++ [])) (sym (append-nil called))
+      (subst (λ (l : List ℕ). Handles conn core' entries' last' (frames ++ f ∷ []) called l) (sym (append-nil said))
+      (handles_on conn core entries entries' last last' n frames called said f act h (tells frames h.behind) counted entries_are last_is core' (behind frames h.behind) (due ∙ on) on (limits h.limits)))
 
   -- a batch ends with it, and this is due
   pub batch_due : commits act ≡ true → (calls : List Call) (text : List ℕ) → StoresGroup entries' last' calls text
@@ -91,31 +141,17 @@ module _ (n conn : ℕ) (core core' : Core) (entries entries' : List Entry) (las
   batch_due due calls text stores frames = λ fed called said counted h.
       handled_batch conn core entries entries' last last' n frames called said f act h (tells frames h.behind) counted entries_are last_is due calls text stores
 
-  module _ (due : commits act ≡ true) (ran : List Call → Type 0) (w w' : Option (List ℕ)) (n' : ℕ) where
-    -- a batch ends with it, and was stored and acknowledged
-    pub frame_batch : (core'' : Core) (entries'' : List Entry) (last'' : ℕ) → ((frames : List LumberFrame) → IsBehind frames core → IsBehind (frames ++ f ∷ []) core'') → core''.due ≡ false → entries'' ≡ [] → Done ran w w' n n' (StoresGroup entries' last')
-        → Done ran w w' n n' (λ calls text. (frames : List LumberFrame) → Leads n (λ fed called said. Handles conn core entries last frames called said) (λ fed called said. Handles conn core'' entries'' last'' (frames ++ f ∷ []) called said) calls text)
-    frame_batch core'' entries'' last'' behind ready empty d = record {
-      calls = d.calls;
-      text = d.text;
-      made = d.made;
-      wrote = d.wrote;
-      counted = d.counted;
-      is = λ frames fed called said counted h.
-          subst (λ (es : List Entry). Handles conn core'' es last'' (frames ++ f ∷ []) (called ++ d.calls) (said ++ d.text)) (sym empty)
-          (handles_batch conn core entries entries' last last' n frames called said f act h (tells frames h.behind) counted entries_are last_is due core'' last'' d.calls d.text (behind frames h.behind) ready d.is);
-    }
+  -- a batch ends with it, and was stored and acknowledged
+  pub frame_batch : commits act ≡ true → (core'' : Core) (entries'' : List Entry) (last'' : ℕ) → ((frames : List LumberFrame) → IsBehind frames core → IsBehind (frames ++ f ∷ []) core'') → core''.due ≡ false → entries'' ≡ []
+      → (calls : List Call) (text : List ℕ) → StoresGroup entries' last' calls text
+      → (frames : List LumberFrame) → Leads n (λ fed called said. Handles conn core entries last frames called said) (λ fed called said. Handles conn core'' entries'' last'' (frames ++ f ∷ []) called said) calls text
+  frame_batch due core'' entries'' last'' behind ready empty calls text stores = λ frames fed called said counted h.
+      subst (λ (es : List Entry). Handles conn core'' es last'' (frames ++ f ∷ []) (called ++ calls) (said ++ text)) (sym empty)
+      (handles_batch conn core entries entries' last last' n frames called said f act h (tells frames h.behind) counted entries_are last_is due core'' last'' calls text (behind frames h.behind) ready stores)
 
-    -- it was not
-    pub frame_halt : (talk : Talk) → Done ran w w' n n' (λ late part. EndsAtGroup entries' last' late part talk) → Done ran w w' n n' (HaltsAtFrame conn core entries last n f talk)
-    frame_halt talk d = record {
-      calls = d.calls;
-      text = d.text;
-      made = d.made;
-      wrote = d.wrote;
-      counted = d.counted;
-      is = inr (λ frames called said counted h. handles_stop conn core entries entries' last last' n frames called said f act h (tells frames h.behind) counted entries_are last_is due d.calls d.text talk d.is);
-    }
+  -- it was not
+  pub frame_halt : commits act ≡ true → (talk : Talk) (late : List Call) (part : List ℕ) → EndsAtGroup entries' last' late part talk → HaltsAtFrame conn core entries last n f talk late part
+  frame_halt due talk late part ends = inr (λ frames called said counted h. handles_stop conn core entries entries' last last' n frames called said f act h (tells frames h.behind) counted entries_are last_is due late part talk ends)
 
 pub group_sure : (es : List Entry) (receipt : Receipt) → All TookSurely (takes es (Ok receipt) ∷ [])
 group_sure es receipt = All-cons TookSurely (takes es (Ok receipt)) [] refl (All-nil TookSurely)

@@ -26,10 +26,10 @@ use Rattle.conn_serve.specs.Lumber.{lumberjack, entries_of, StoresGroup, EndsAtG
 use Rattle.conn_serve.specs.Handled.{Handled, Served, Closing, ReadBy}
 use Rattle.conn_serve.specs.Says.{CouldEnd}
 use Rattle.conn_serve.proofs.Saying.{has_carried}
-use Rattle.conn_serve.specs.Done.{Done, Leads, SoFar, Anyway}
+use Rattle.conn_serve.specs.Done.{Leads, SoFar, Anyway}
 use Rattle.conn_serve.specs.LumberServing.{Handles, HaltsAtFrame}
 use Rattle.conn_serve.proofs.Handling.{handled_none, carried_starved, carried_at, carried_over, carried_instead}
-use Rattle.conn_serve.proofs.Leading.{done_start}
+use Rattle.conn_serve.proofs.Leading.{leads_start}
 use Rattle.conn_serve.proofs.Windowed.{Laws, Framed, Kind, read_next}
 use Rattle.conn_serve.proofs.Windowed as windowed
 use Rattle.conn_serve.proofs.Batching.{entries_count}
@@ -124,42 +124,28 @@ served_none conn w core entries last fault handled reads told = record { frames 
 pub none_carried : (conn : ℕ) (left : Option (List ℕ)) → Carried (lumberjack conn) left [] [] [] NoMemory
 none_carried conn left = carried_starved (lumberjack conn) left [] [] 0 [] [] (handled_none (lumberjack conn) (nowhere_none [])) (record { front = []; rest = []; spelled = refl; ends = refl; whole = refl })
 
-module _ (ran : List Call → Type 0) (written written' : Option (List ℕ)) (n n' conn : ℕ) (w w' : Window LumberFault) (core : Core) (entries : List Entry) (last : ℕ) (fault : Option LumberFault) (f : LumberFrame) (g : Gives receiver (Spells Receiver) w f w') (k : ℕ) (same : k ≡ conn) where
+module _ (n conn : ℕ) (w w' : Window LumberFault) (core : Core) (entries : List Entry) (last : ℕ) (fault : Option LumberFault) (f : LumberFrame) (g : Gives receiver (Spells Receiver) w f w') where
   -- a frame more
-  pub served_frame : (core' : Core) (entries' : List Entry) (last' : ℕ)
-      → Done ran written written' n n' (λ calls text. (frames : List LumberFrame) → Leads n (λ fed called said. Handles k core entries last frames called said) (λ fed called said. Handles k core' entries' last' (frames ++ f ∷ []) called said) calls text)
-      → Done ran written written' n n' (Leads n (Served (Handles conn core entries last) (ReadBy receiver (Spells Receiver) w fault)) (Served (Handles conn core' entries' last') (ReadBy receiver (Spells Receiver) w' fault)))
-  served_frame core' entries' last' d = record {
-    calls = d.calls;
-    text = d.text;
-    made = d.made;
-    wrote = d.wrote;
-    counted = d.counted;
-    is = λ fed called said counted s. record {
-      frames = s.frames ++ f ∷ [];
-      handled = subst (λ (c : ℕ). Handles c core' entries' last' (s.frames ++ f ∷ []) (called ++ d.calls) (said ++ d.text)) same
-          (d.is s.frames fed called said counted (subst (λ (c : ℕ). Handles c core entries last s.frames called said) (sym same) s.handled));
-      reads = read_next receiver (Spells Receiver) w w' fault f g fed s.frames s.reads;
-    };
+  pub served_frame : (core' : Core) (entries' : List Entry) (last' : ℕ) (calls : List Call) (text : List ℕ)
+      → ((frames : List LumberFrame) → Leads n (λ fed called said. Handles conn core entries last frames called said) (λ fed called said. Handles conn core' entries' last' (frames ++ f ∷ []) called said) calls text)
+      → Leads n (Served (Handles conn core entries last) (ReadBy receiver (Spells Receiver) w fault)) (Served (Handles conn core' entries' last') (ReadBy receiver (Spells Receiver) w' fault)) calls text
+  served_frame core' entries' last' calls text leads = λ fed called said counted s. record {
+    frames = s.frames ++ f ∷ [];
+    handled = leads s.frames fed called said counted s.handled;
+    reads = read_next receiver (Spells Receiver) w w' fault f g fed s.frames s.reads;
   }
 
   -- the connection ends at the frame, or for want of memory
-  pub served_halt : (talk : Talk) → IsAtMove talk → Done ran written written' n n' (HaltsAtFrame k core entries last n f talk) → Done ran written written' n n' (Leads n (Served (Handles conn core entries last) (ReadBy receiver (Spells Receiver) w fault)) (Anyway (Carried (lumberjack conn)) talk))
-  served_halt talk is d = record {
-    calls = d.calls;
-    text = d.text;
-    made = d.made;
-    wrote = d.wrote;
-    counted = d.counted;
-    is = λ fed called said counted s left more.
-        let front = windowed.front_more (kind conn core entries last) w fault left fed called said s more in
-        let next = windowed.front_next (kind conn core entries last) w fault left fed called said s more f w' g in
-        carried_at (lumberjack conn) left (fed ++ more) s.frames front.0 called said s.handled.handled front.1 f next.0 d.calls d.text talk is next.1
-        (elim (subst (λ (c : ℕ). HaltsAtFrame c core entries last n f talk d.calls d.text) same d.is) [
-          | inl starved ↦ inl starved
-          | inr stops ↦ inr (stops s.frames called said counted s.handled)
-        ]);
-  }
+  pub served_halt : (talk : Talk) → IsAtMove talk → (late : List Call) (part : List ℕ) → HaltsAtFrame conn core entries last n f talk late part
+      → Leads n (Served (Handles conn core entries last) (ReadBy receiver (Spells Receiver) w fault)) (Anyway (Carried (lumberjack conn)) talk) late part
+  served_halt talk is late part halts = λ fed called said counted s left more.
+      let front = windowed.front_more (kind conn core entries last) w fault left fed called said s more in
+      let next = windowed.front_next (kind conn core entries last) w fault left fed called said s more f w' g in
+      carried_at (lumberjack conn) left (fed ++ more) s.frames front.0 called said s.handled.handled front.1 f next.0 late part talk is next.1
+      (elim halts [
+        | inl starved ↦ inl starved
+        | inr stops ↦ inr (stops s.frames called said counted s.handled)
+      ])
 
 -- A text that is due for the next frame is what a connection has carried that ends there.
 pub due_carried : (n conn : ℕ) (w w' : Window LumberFault) (core : Core) (entries : List Entry) (last : ℕ) (fault : Option LumberFault) (f : LumberFrame) → Gives receiver (Spells Receiver) w f w' → (calls : List Call) (text : List ℕ)
@@ -226,20 +212,20 @@ so_far_handles conn w core entries last fault n more k same s = record {
 }
 
 -- the same of the number that a connection still has
-module _ (ran : List Call → Type 0) (written written' : Option (List ℕ)) (n n' k conn : ℕ) (same : k ≡ conn) (w : Window LumberFault) (core : Core) (entries : List Entry) (last : ℕ) (fault : Option LumberFault) where
+module _ (n k conn : ℕ) (same : k ≡ conn) (w : Window LumberFault) (core : Core) (entries : List Entry) (last : ℕ) (fault : Option LumberFault) (calls : List Call) (text : List ℕ) where
   pub served_by : (w' : Window LumberFault) (core' : Core) (entries' : List Entry) (last' : ℕ)
-      → Done ran written written' n n' (Leads n (Served (Handles k core entries last) (ReadBy receiver (Spells Receiver) w fault)) (Served (Handles k core' entries' last') (ReadBy receiver (Spells Receiver) w' fault)))
-      → Done ran written written' n n' (Leads n (Served (Handles conn core entries last) (ReadBy receiver (Spells Receiver) w fault)) (Served (Handles conn core' entries' last') (ReadBy receiver (Spells Receiver) w' fault)))
-  served_by w' core' entries' last' d =
-      subst (λ (c : ℕ). Done ran written written' n n' (Leads n (Served (Handles c core entries last) (ReadBy receiver (Spells Receiver) w fault)) (Served (Handles c core' entries' last') (ReadBy receiver (Spells Receiver) w' fault)))) same d
+      → Leads n (Served (Handles k core entries last) (ReadBy receiver (Spells Receiver) w fault)) (Served (Handles k core' entries' last') (ReadBy receiver (Spells Receiver) w' fault)) calls text
+      → Leads n (Served (Handles conn core entries last) (ReadBy receiver (Spells Receiver) w fault)) (Served (Handles conn core' entries' last') (ReadBy receiver (Spells Receiver) w' fault)) calls text
+  served_by w' core' entries' last' leads =
+      subst (λ (c : ℕ). Leads n (Served (Handles c core entries last) (ReadBy receiver (Spells Receiver) w fault)) (Served (Handles c core' entries' last') (ReadBy receiver (Spells Receiver) w' fault)) calls text) same leads
 
-  pub halted_by : (talk : Talk) → Done ran written written' n n' (Leads n (Served (Handles k core entries last) (ReadBy receiver (Spells Receiver) w fault)) (Anyway (Carried (lumberjack k)) talk))
-      → Done ran written written' n n' (Leads n (Served (Handles conn core entries last) (ReadBy receiver (Spells Receiver) w fault)) (Anyway (Carried (lumberjack conn)) talk))
-  halted_by talk d = subst (λ (c : ℕ). Done ran written written' n n' (Leads n (Served (Handles c core entries last) (ReadBy receiver (Spells Receiver) w fault)) (Anyway (Carried (lumberjack c)) talk))) same d
+  pub halted_by : (talk : Talk) → Leads n (Served (Handles k core entries last) (ReadBy receiver (Spells Receiver) w fault)) (Anyway (Carried (lumberjack k)) talk) calls text
+      → Leads n (Served (Handles conn core entries last) (ReadBy receiver (Spells Receiver) w fault)) (Anyway (Carried (lumberjack conn)) talk) calls text
+  halted_by talk leads = subst (λ (c : ℕ). Leads n (Served (Handles c core entries last) (ReadBy receiver (Spells Receiver) w fault)) (Anyway (Carried (lumberjack c)) talk) calls text) same leads
 
 -- no frame was served
-pub served_still : (ran : List Call → Type 0) (written : Option (List ℕ)) (n conn : ℕ) (w w' : Window LumberFault) (core : Core) (entries : List Entry) (last : ℕ) (fault : Option LumberFault) → w' ≡ w → ran []
-    → Done ran written written n n (Leads n (Served (Handles conn core entries last) (ReadBy receiver (Spells Receiver) w fault)) (Served (Handles conn core entries last) (ReadBy receiver (Spells Receiver) w' fault)))
-served_still ran written n conn w w' core entries last fault same none =
-    subst (λ (v : Window LumberFault). Done ran written written n n (Leads n (Served (Handles conn core entries last) (ReadBy receiver (Spells Receiver) w fault)) (Served (Handles conn core entries last) (ReadBy receiver (Spells Receiver) v fault)))) (sym same)
-    (done_start ran written n (Served (Handles conn core entries last) (ReadBy receiver (Spells Receiver) w fault)) none)
+pub served_still : (n conn : ℕ) (w w' : Window LumberFault) (core : Core) (entries : List Entry) (last : ℕ) (fault : Option LumberFault) → w' ≡ w
+    → Leads n (Served (Handles conn core entries last) (ReadBy receiver (Spells Receiver) w fault)) (Served (Handles conn core entries last) (ReadBy receiver (Spells Receiver) w' fault)) [] []
+served_still n conn w w' core entries last fault same =
+    subst (λ (v : Window LumberFault). Leads n (Served (Handles conn core entries last) (ReadBy receiver (Spells Receiver) w fault)) (Served (Handles conn core entries last) (ReadBy receiver (Spells Receiver) v fault)) [] []) (sym same)
+    (leads_start n (Served (Handles conn core entries last) (ReadBy receiver (Spells Receiver) w fault)))

@@ -1,5 +1,5 @@
 //! What is done for one frame of Lumberjack.
-ghost use Rattle.std.specs.Prelude.{◌≡◌, ◌+◌, ◌<◌, ◌≤◌, ◌^◌, ℕ, List, [], ◌∷◌, ◌++◌, length, All, OnOk, IfOk, IfErr, IsErrOf, false, true};
+ghost use Rattle.std.specs.Prelude.{◌≡◌, ◌+◌, ◌<◌, ◌≤◌, ◌^◌, ℕ, List, [], ◌∷◌, ◌++◌, length, All, OnOk, IfOk, IfErr, false, true};
 ghost use Rattle.lumber_frame.specs.declared.frame.LumberFrame.{LumberFrame};
 ghost use Rattle.lumber_frame.specs.declared.side.Side.TheVariants.{Receiver};
 ghost use Rattle.lumber_frame.specs.Spelling.{IsFrameFor};
@@ -13,9 +13,8 @@ ghost use Rattle.conn_serve.specs.Handled.{Handled};
 ghost use Rattle.conn_serve.specs.Says.{MaySay};
 ghost use Rattle.conn_serve.specs.Lumber.{lumberjack, StoresGroup, EndsAtGroup, entries_of};
 ghost use Rattle.conn_serve.specs.Groups.{IsFrameEntry};
-ghost use Rattle.conn_serve.specs.Done.{Done, Leads, SoFar};
-ghost use Rattle.conn_serve.specs.Endings.{CountsFaults};
-ghost use Rattle.desk_access.specs.Endings.{IsAtMove};
+ghost use Rattle.conn_serve.specs.Done.{Leads, SoFar};
+ghost use Rattle.conn_serve.specs.Went.{GoesOn, HaltsBy};
 ghost use Rattle.conn_serve.specs.LumberServing.{Handles, HaltsAtFrame, stages, last_behind};
 
 use crate::connection::{Connection, take_group};
@@ -84,20 +83,14 @@ pub fn commit<L: Link, A: Access>(
     requires says { MaySay (A.ran access.old) (L.permits link.old) (L.taken link.old)
         (StoresGroup staged.old.entries.items staged.old.last) }
 
-    ensures goes { OnOk result (Done (λ calls. A.ran access.old calls access.new) (L.taken link.old) (L.taken link.new)
-        connection.old.taken connection.new.taken (StoresGroup staged.old.entries.items staged.old.last)) }
-    ensures halts { IfErr result (λ talk. Done (λ calls. A.ran access.old calls access.new) (L.taken link.old) (L.taken link.new)
-        connection.old.taken connection.new.taken (λ late part. EndsAtGroup staged.old.entries.items staged.old.last late part talk)) }
-    ensures only { IfErr result IsAtMove }
+    ensures goes { OnOk result (GoesOn (L.Sink.own, L.Object, A.Access) (link.old, access.old, connection.old) (link.new, access.new, connection.new)
+        (StoresGroup staged.old.entries.items staged.old.last)) }
+    ensures halts { IfErr result (HaltsBy (L.Sink.own, L.Object, A.Access) (link.old, access.old, connection.old) (link.new, access.new, connection.new)
+        (λ talk late part. EndsAtGroup staged.old.entries.items staged.old.last late part talk)) }
     ensures empty { OnOk result (staged.new.entries.items ≡ []) }
     ensures ready { OnOk result (core.new.due ≡ false) }
     ensures behind { OnOk result ((frames : List LumberFrame) → core.old.due ≡ true → IsBehind frames core.old → IsBehind frames core.new) }
-    ensures number { connection.new.number ≡ connection.old.number }
     ensures taken { OnOk result (connection.new.taken ≡ connection.old.taken + length staged.old.entries.items) }
-    ensures may { OnOk result (A.may_take access.new connection.old.number connection.new.taken) }
-    ensures writes { CountsFaults (IsErrOf result Talk.WriteFault) (L.write_faults link.old) (L.write_faults link.new) }
-    ensures same { L.same link.old link.new }
-    ensures apart { L.write_apart link.old link.new }
 {
     if let Err(fault) = take_group(access, connection, &staged.entries) {
         return Err(talk_of(fault));
@@ -127,20 +120,13 @@ pub fn serve_frame<L: Link, A: Access>(
         (λ fed called said. Handles connection.old.number core.old staged.old.entries.items staged.old.last frames called said)
         (λ fed called said. Handled (lumberjack connection.old.number) (frames ++ frame_lent lent ∷ []) called said) calls text) }
 
-    ensures goes { OnOk result (Done (λ calls. A.ran access.old calls access.new) (L.taken link.old) (L.taken link.new)
-        connection.old.taken connection.new.taken (λ calls text. (frames : List LumberFrame) → Leads connection.old.taken
+    ensures goes { OnOk result (GoesOn (L.Sink.own, L.Object, A.Access) (link.old, access.old, connection.old) (link.new, access.new, connection.new)
+        (λ calls text. (frames : List LumberFrame) → Leads connection.old.taken
         (λ fed called said. Handles connection.old.number core.old staged.old.entries.items staged.old.last frames called said)
         (λ fed called said. Handles connection.old.number core.new staged.new.entries.items staged.new.last
         (frames ++ frame_lent lent.entry ∷ []) called said) calls text)) }
-    ensures halts { IfErr result (λ talk. Done (λ calls. A.ran access.old calls access.new) (L.taken link.old) (L.taken link.new)
-        connection.old.taken connection.new.taken (HaltsAtFrame connection.old.number core.old staged.old.entries.items staged.old.last
-        connection.old.taken (frame_lent lent.entry) talk)) }
-    ensures only { IfErr result IsAtMove }
-    ensures number { connection.new.number ≡ connection.old.number }
-    ensures may { OnOk result (A.may_take access.new connection.old.number connection.new.taken) }
-    ensures writes { CountsFaults (IsErrOf result Talk.WriteFault) (L.write_faults link.old) (L.write_faults link.new) }
-    ensures same { L.same link.old link.new }
-    ensures apart { L.write_apart link.old link.new }
+    ensures halts { IfErr result (HaltsBy (L.Sink.own, L.Object, A.Access) (link.old, access.old, connection.old) (link.new, access.new, connection.new)
+        (HaltsAtFrame connection.old.number core.old staged.old.entries.items staged.old.last connection.old.taken (frame_lent lent.entry))) }
 {
     let act = core.step_lent(lent);
     if stage(staged, connection, act)? {

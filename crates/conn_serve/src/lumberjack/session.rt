@@ -1,5 +1,5 @@
 //! A session of Lumberjack.
-ghost use Rattle.std.specs.Prelude.{◌≡◌, ◌==◌, if◌then◌else◌, ◌+◌, ◌<◌, ◌^◌, List, [], length, Option, None, IfOk, IfErr, OnOk, IsErrOf, false, true};
+ghost use Rattle.std.specs.Prelude.{◌≡◌, ◌==◌, if◌then◌else◌, ◌+◌, ◌<◌, ◌^◌, List, [], length, Option, None, IfOk, IfErr, OnOk, false, true};
 ghost use Rattle.lumber_frame.specs.declared.fault.LumberFault.{LumberFault as TheFault};
 ghost use Rattle.lumber_frame.specs.declared.frame.LumberFrame.{LumberFrame};
 ghost use Rattle.lumber_frame.specs.declared.limits.TheConstants.{ROOM};
@@ -9,10 +9,9 @@ ghost use Rattle.lumber_frame.specs.Spelling.{Spells};
 ghost use Rattle.lumber_session.specs.Counting.{IsBehind, unused};
 ghost use Rattle.stream_grammar.specs.Reading.{clear, held_of, Reads};
 ghost use Rattle.desk_access.specs.Carried.{Carried};
-ghost use Rattle.desk_access.specs.Endings.{IsAtMove};
 ghost use Rattle.conn_serve.specs.Lumber.{lumberjack};
-ghost use Rattle.conn_serve.specs.Done.{Anyway, Done, Leads, SoFar};
-ghost use Rattle.conn_serve.specs.Endings.{CountsFaults};
+ghost use Rattle.conn_serve.specs.Done.{Anyway, Leads, SoFar};
+ghost use Rattle.conn_serve.specs.Went.{GoesOn, HaltsBy};
 ghost use Rattle.conn_serve.specs.Says.{CouldEnd, MaySay};
 ghost use Rattle.conn_serve.specs.Memory.{need_of};
 ghost use Rattle.conn_serve.specs.Terms.{no_tokens, terms_with};
@@ -63,23 +62,15 @@ fn serve_next<L: Link, A: Access>(
         (ReadBy receiver (Spells Receiver) window.old fault))
         (CouldEnd (Carried (lumberjack connection.old.number))) calls text) }
 
-    ensures goes { (fault : Option TheFault) → OnOk result (Done (λ calls. A.ran access.old calls access.new) (L.taken link.old) (L.taken link.new)
-        connection.old.taken connection.new.taken (Leads connection.old.taken
-        (Served (Handles connection.old.number core.old staged.old.entries.items staged.old.last) (ReadBy receiver (Spells Receiver) window.old fault))
+    ensures goes { (fault : Option TheFault) → OnOk result (GoesOn (L.Sink.own, L.Object, A.Access) (link.old, access.old, connection.old) (link.new, access.new, connection.new)
+        (Leads connection.old.taken (Served (Handles connection.old.number core.old staged.old.entries.items staged.old.last) (ReadBy receiver (Spells Receiver) window.old fault))
         (Served (Handles connection.old.number core.new staged.new.entries.items staged.new.last) (ReadBy receiver (Spells Receiver) window.new fault)))) }
-    ensures halts { (fault : Option TheFault) → IfErr result (λ talk. Done (λ calls. A.ran access.old calls access.new) (L.taken link.old) (L.taken link.new)
-        connection.old.taken connection.new.taken (Leads connection.old.taken
-        (Served (Handles connection.old.number core.old staged.old.entries.items staged.old.last) (ReadBy receiver (Spells Receiver) window.old fault))
+    ensures halts { (fault : Option TheFault) → IfErr result (HaltsBy (L.Sink.own, L.Object, A.Access) (link.old, access.old, connection.old) (link.new, access.new, connection.new)
+        (λ talk. Leads connection.old.taken (Served (Handles connection.old.number core.old staged.old.entries.items staged.old.last) (ReadBy receiver (Spells Receiver) window.old fault))
         (Anyway (Carried (lumberjack connection.old.number)) talk))) }
-    ensures only { IfErr result IsAtMove }
     ensures idle { IfOk result (λ served. served ≡ false → IsIdle ROOM window.new) }
     ensures fewer { IfOk result (λ served. served ≡ true → length window.new.whole < length window.old.whole) }
     ensures extent { OnOk result (window.new.at + length window.new.rest ≡ window.old.at + length window.old.rest) }
-    ensures number { connection.new.number ≡ connection.old.number }
-    ensures may { OnOk result (A.may_take access.new connection.old.number connection.new.taken) }
-    ensures writes { CountsFaults (IsErrOf result Talk.WriteFault) (L.write_faults link.old) (L.write_faults link.new) }
-    ensures same { L.same link.old link.new }
-    ensures apart { L.write_apart link.old link.new }
 {
     let Some(lent) = window.next() else {
         return Ok(false);

@@ -1,23 +1,21 @@
-use Rattle.std.proofs.Common.{ap, refl}
-use Rattle.conn_serve.specs.declared.connection.Connection.{Connection}
-use Rattle.conn_serve.proofs.LumberActing.{done_refused}
-use Rattle.conn_serve.proofs.Faults.{said_counts, said_only}
+use Rattle.std.proofs.Common.{◌∙◌, ◌<◌, ◌^◌, ap, rules}
+use Rattle.lumber_frame.specs.Spelling.{ack_text}
+use Rattle.conn_serve.proofs.LumberActing.{goes_said, halts_refused, halts_said, took_ok}
 use Rattle.conn_serve.proofs.lumberjack.act.commit.Goals as goal
 
 pub returns-in-Err-clause-halts : goal.returns-in-Err-clause-halts
-returns-in-Err-clause-halts g c = rw c.talk_of.ensures (done_refused _ _ c.args.connection.now.taken _ c.args.staged.now.entries.items c.deref.result.now c.deref.ensures.value c.args.staged.now.last c.in-Err.fault _ c.in-Err.ensures.ran (ap (λ (x : Connection). x.taken) c.in-Err.ensures.stays) refl)
+returns-in-Err-clause-halts g c = halts_refused (g.L.Sink, g.L.Object, g.A.Access) c.args.link.now c.args.access.now _ c.args.connection.now _ c.args.staged.now.entries.items c.deref.result.now c.deref.ensures.value c.args.staged.now.last c.in-Err.fault _ c.in-Err.ensures.ran c.in-Err.ensures.stays c.talk_of.ensures (g.met.L.Sink.apart_refl _)
 
-pub returns-clause-only : goal.returns-clause-only
-returns-clause-only g c = said_only _ (c.say.result) c.say.ensures.part
+pub returns-clause-goes : goal.returns-clause-goes
+returns-clause-goes g c =
+    let took = took_ok (λ calls. g.A.Access.ran c.args.access.now calls c.take_group.new.access) c.take_group.result c.args.staged.now.entries.items c.deref.result.now c.args.connection.now c.take_group.new.connection _ c.deref.ensures.value
+        c.in_default.not-Err c.take_group.ensures.ran c.take_group.ensures.next c.take_group.ensures.may in
+    let small : c.args.staged.now.last < 2 ^ 32 = search rules in
+    goes_said (g.L.Sink, g.L.Object, g.A.Access) c.args.link.now _ c.args.access.now _ c.args.connection.now _ c.args.staged.now.entries.items took.0 took.1 took.2 c.args.staged.now.last small c.ack_for.result
+        (c.ack_for.ensures ∙ ap ack_text c.stored.ensures.last) c.say.ensures.same c.say.ensures.apart c.say.result c.say.ensures.whole c.say.ensures.writes took.3
 
-pub returns-clause-writes : goal.returns-clause-writes
-returns-clause-writes g c = said_counts _ (c.say.result) _ _ c.say.ensures.part c.say.ensures.writes
-
-pub returns-clause-same : goal.returns-clause-same
-returns-clause-same g c = c.say.ensures.same
-
-pub returns-clause-apart : goal.returns-clause-apart
-returns-clause-apart g c = c.say.ensures.apart
+pub returns-clause-halts : goal.returns-clause-halts
+returns-clause-halts g c = let whole = c in ?
 
 pub returns-in-Err-clause-goes : goal.returns-in-Err-clause-goes
 returns-in-Err-clause-goes g c = tt
@@ -33,15 +31,3 @@ returns-in-Err-clause-ready g c = tt
 
 pub returns-in-Err-clause-taken : goal.returns-in-Err-clause-taken
 returns-in-Err-clause-taken g c = tt
-
-pub returns-in-Err-clause-may : goal.returns-in-Err-clause-may
-returns-in-Err-clause-may g c = tt
-
-pub returns-in-Err-clause-number : goal.returns-in-Err-clause-number
-returns-in-Err-clause-number g c = ap (λ (x : Connection). x.number) c.in-Err.ensures.stays
-
-pub returns-in-Err-clause-same : goal.returns-in-Err-clause-same
-returns-in-Err-clause-same g c = g.L.Object.same_refl _
-
-pub returns-in-Err-clause-apart : goal.returns-in-Err-clause-apart
-returns-in-Err-clause-apart g c = g.met.L.Sink.apart_refl _

@@ -1,9 +1,10 @@
 use Rattle.std.proofs.Common.{◌∙◌, inl, refl, sym, arith, subst}
 use Rattle.lumber_frame.specs.Lent.{frame_lent}
 use Rattle.lumber_session.specs.Lent.{act_lent}
-use Rattle.conn_serve.proofs.Acting.{done_nothing, err_then}
+use Rattle.conn_serve.proofs.Acting.{err_then}
+use Rattle.conn_serve.proofs.Going.{goes_as, halts_as, went_none}
 use Rattle.conn_serve.proofs.LumberActing.{batch_due, staged_few, staged_next, frame_on, frame_batch, frame_halt, batch_then}
-use Rattle.conn_serve.proofs.Faults.{counts_fine, counts_other, err_of, memory_is_whole}
+use Rattle.conn_serve.proofs.Faults.{err_of, memory_is_whole}
 use Rattle.desk_access.specs.Endings.{IsAtMove}
 use Rattle.conn_serve.proofs.lumberjack.act.serve_frame.Goals as goal
 
@@ -34,13 +35,10 @@ returns-in_err-stage g c =
     rw (err_of c.from_residual.result c.in_err-stage.field-0.0 c.from_residual.ensures.1)
     (record {
       goes = tt;
-      only = subst IsAtMove (sym c.in_err-stage.ensures.err) tt;
-      number = refl;
-      may = tt;
-      writes = counts_other _ _ _ _ _ (λ is. memory_is_whole (sym c.in_err-stage.ensures.err ∙ is)) refl;
-      same = g.L.Object.same_refl _;
-      apart = g.met.L.Sink.apart_refl _;
-      halts = (done_nothing _ _ _ _ (g.met.A.Access.ran_none _) (inl ((refl, refl), c.in_err-stage.ensures.err)));
+      halts = record {
+        went = went_none (g.L.Sink, g.L.Object, g.A.Access) _ _ _ (λ is. memory_is_whole (sym c.in_err-stage.ensures.err ∙ is)) (g.met.A.Access.ran_none _) (g.met.L.Sink.apart_refl _) (inl ((refl, refl), c.in_err-stage.ensures.err));
+        at_move = subst IsAtMove (sym c.in_err-stage.ensures.err) tt;
+      };
     })
 
 pub returns-then-branch : goal.returns-then-branch
@@ -48,33 +46,24 @@ returns-then-branch g c =
     let staged = c.in_ok-stage.ensures in
     let due = sym staged.commits ∙ c.if-branch.true in
     record {
-      goes = batch_then c.commit.result _ _ _ _ _ c.commit.ensures.goes c.commit.ensures.empty c.commit.ensures.ready c.commit.ensures.behind (λ d empty ready behind. frame_batch
+      goes = batch_then c.commit.result _ _ _ _ _ c.commit.ensures.goes c.commit.ensures.empty c.commit.ensures.ready c.commit.ensures.behind (λ h empty ready behind. goes_as _ _ _ _ _ h (frame_batch
           c.args.connection.now.taken c.args.connection.now.number c.args.core.now c.step_lent-act.new.self c.args.staged.now.entries.items c.stage.new.staged.entries.items c.args.staged.now.last
-          c.stage.new.staged.last (frame_lent c.args.lent) (act_lent c.step_lent-act.result) c.step_lent-act.ensures.act staged.entries staged.last due _ _ _ _ c.commit.new.core
-          c.commit.new.staged.entries.items c.commit.new.staged.last (λ frames is. behind _ (c.step_lent-act.ensures.due ∙ due) (c.step_lent-act.ensures.behind frames is)) ready empty d);
-      halts = err_then c.commit.result _ _ c.commit.ensures.halts (λ talk d. frame_halt c.args.connection.now.taken c.args.connection.now.number c.args.core.now c.step_lent-act.new.self
-          c.args.staged.now.entries.items c.stage.new.staged.entries.items c.args.staged.now.last c.stage.new.staged.last (frame_lent c.args.lent) (act_lent c.step_lent-act.result)
-          c.step_lent-act.ensures.act staged.entries staged.last (sym staged.commits ∙ c.if-branch.true) _ _ _ _ talk d);
-      only = c.commit.ensures.only;
-      number = c.commit.ensures.number;
-      may = c.commit.ensures.may;
-      writes = c.commit.ensures.writes;
-      same = c.commit.ensures.same;
-      apart = c.commit.ensures.apart;
+          c.stage.new.staged.last (frame_lent c.args.lent) (act_lent c.step_lent-act.result) c.step_lent-act.ensures.act staged.entries staged.last due c.commit.new.core
+          c.commit.new.staged.entries.items c.commit.new.staged.last (λ frames is. behind _ (c.step_lent-act.ensures.due ∙ due) (c.step_lent-act.ensures.behind frames is)) ready empty));
+      halts = err_then c.commit.result _ _ c.commit.ensures.halts (λ talk h. halts_as _ _ _ _ _ talk h (λ at. frame_halt c.args.connection.now.taken c.args.connection.now.number c.args.core.now
+          c.step_lent-act.new.self c.args.staged.now.entries.items c.stage.new.staged.entries.items c.args.staged.now.last c.stage.new.staged.last (frame_lent c.args.lent)
+          (act_lent c.step_lent-act.result) c.step_lent-act.ensures.act staged.entries staged.last due talk));
     }
 
 pub returns-else-branch : goal.returns-else-branch
 returns-else-branch g c =
     let staged = c.in_ok-stage.ensures in
     record {
-      goes = frame_on c.args.connection.now.taken c.args.connection.now.number c.args.core.now c.step_lent-act.new.self c.args.staged.now.entries.items c.stage.new.staged.entries.items
-          c.args.staged.now.last c.stage.new.staged.last (frame_lent c.args.lent) (act_lent c.step_lent-act.result) c.step_lent-act.ensures.act staged.entries staged.last _ _
-          (g.met.A.Access.ran_none _) c.step_lent-act.ensures.behind c.step_lent-act.ensures.due (sym staged.commits ∙ c.if-branch.false) staged.limits;
+      goes = record {
+        went = went_none (g.L.Sink, g.L.Object, g.A.Access) _ _ _ (λ none. none) (g.met.A.Access.ran_none _) (g.met.L.Sink.apart_refl _) (frame_on c.args.connection.now.taken c.args.connection.now.number
+            c.args.core.now c.step_lent-act.new.self c.args.staged.now.entries.items c.stage.new.staged.entries.items c.args.staged.now.last c.stage.new.staged.last (frame_lent c.args.lent)
+            (act_lent c.step_lent-act.result) c.step_lent-act.ensures.act staged.entries staged.last c.step_lent-act.ensures.behind c.step_lent-act.ensures.due (sym staged.commits ∙ c.if-branch.false) staged.limits);
+        may = c.requires.may;
+      };
       halts = tt;
-      only = tt;
-      number = refl;
-      may = c.requires.may;
-      writes = counts_fine _ _ _ _ _ refl;
-      same = g.L.Object.same_refl _;
-      apart = g.met.L.Sink.apart_refl _;
     }

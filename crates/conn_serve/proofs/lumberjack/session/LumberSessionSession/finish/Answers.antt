@@ -1,5 +1,6 @@
 use Rattle.std.proofs.Common.{rules, arith}
-use Rattle.conn_serve.proofs.Acting.{done_nothing, ok_then, err_both, none_by}
+use Rattle.conn_serve.proofs.Acting.{done_nothing, ok_then, err_then, none_by}
+use Rattle.conn_serve.proofs.Going.{keeps, went_done}
 use Rattle.desk_access.specs.Carried.{Carried}
 use Rattle.conn_serve.specs.Lumber.{lumberjack}
 use Rattle.conn_serve.proofs.Saying.{has_carried}
@@ -27,14 +28,14 @@ commit-requires-clause-early g c =
 pub returns-clause-goes : goal.returns-clause-goes
 returns-clause-goes g c =
     let now = c.args.self.now in
-    ok_then c.commit.result _ _ c.commit.ensures.goes (λ d. done_map _ _ _ _ _ _ _ d (λ calls text stores left fed called said counted k.
+    ok_then c.commit.result _ _ c.commit.ensures.goes (λ h. done_map _ _ _ _ _ _ _ (went_done _ _ _ _ _ h.went) (λ calls text stores left fed called said counted k.
     finished_batch c.args.connection.now.number now.core now.staged.entries.items now.staged.last left c.args.over fed called said k calls text (search rules) stores))
 
 pub returns-clause-halts : goal.returns-clause-halts
 returns-clause-halts g c =
     let now = c.args.self.now in
-    err_both c.commit.result _ _ _ c.commit.ensures.halts c.commit.ensures.only (λ talk d at. done_map _ _ _ _ _ _ _ d (λ late part ends left fed called said counted k.
-    finished_halt c.args.connection.now.number now.core now.staged.entries.items now.staged.last left c.args.over fed called said k late part talk at (search rules) ends))
+    err_then c.commit.result _ _ c.commit.ensures.halts (λ talk h. done_map _ _ _ _ _ _ _ (went_done _ _ _ _ _ h.went) (λ late part ends left fed called said counted k.
+    finished_halt c.args.connection.now.number now.core now.staged.entries.items now.staged.last left c.args.over fed called said k late part talk h.at_move (search rules) ends))
 
 pub commit-requires-clause-says : goal.commit-requires-clause-says
 commit-requires-clause-says g c =
@@ -42,3 +43,15 @@ commit-requires-clause-says g c =
     λ now calls text made stores. c.requires.says now calls text made (λ left fed called said counted k.
     has_carried (Carried (lumberjack c.args.connection.now.number)) left fed c.args.over _ _
     (finished_batch c.args.connection.now.number session.core session.staged.entries.items session.staged.last left c.args.over fed called said k calls text (search rules) stores))
+
+pub returns-clause-only : goal.returns-clause-only
+returns-clause-only g c = err_then c.commit.result _ _ c.commit.ensures.halts (λ talk h. h.at_move)
+
+pub returns-clause-writes : goal.returns-clause-writes
+returns-clause-writes g c = (keeps (g.L.Sink, g.L.Object, g.A.Access) _ _ c.commit.result _ _ c.commit.ensures.goes c.commit.ensures.halts).1
+
+pub returns-clause-same : goal.returns-clause-same
+returns-clause-same g c = (keeps (g.L.Sink, g.L.Object, g.A.Access) _ _ c.commit.result _ _ c.commit.ensures.goes c.commit.ensures.halts).2
+
+pub returns-clause-apart : goal.returns-clause-apart
+returns-clause-apart g c = (keeps (g.L.Sink, g.L.Object, g.A.Access) _ _ c.commit.result _ _ c.commit.ensures.goes c.commit.ensures.halts).3

@@ -1,8 +1,9 @@
-use Rattle.std.proofs.Common.{◌≡◌, ◌+◌, ◌≤◌, length}
+use Rattle.std.proofs.Common.{◌+◌, ◌≤◌, length}
 use Rattle.lumber_frame.specs.declared.side.Side.TheVariants.{Receiver}
 use Rattle.lumber_frame.specs.Reading.{receiver}
 use Rattle.lumber_frame.specs.Spelling.{Spells}
-use Rattle.conn_serve.specs.Done.{Done, Leads, SoFar}
+use Rattle.conn_serve.specs.Done.{Leads, SoFar}
+use Rattle.conn_serve.specs.Went.{GoesOn}
 use Rattle.conn_serve.specs.Handled.{Served, ReadBy}
 use Rattle.conn_serve.specs.LumberServing.{Handles}
 use Rattle.conn_serve.proofs.lumberjack.session.LumberSessionSession.serve.Given as goal
@@ -13,16 +14,11 @@ invariant-frames g l =
     let now = l.self in
     let number = l.fn.connection.number in
     record {
-      done : Done (λ calls. g.A.Access.ran l.fn.access calls l.access) (g.L.Sink.taken l.fn.link) (g.L.Sink.taken l.link) l.fn.connection.taken l.connection.taken
-          (Leads l.fn.connection.taken (Served (Handles number was.core was.staged.entries.items was.staged.last) (ReadBy receiver (Spells Receiver) was.window was.fault))
+      goes : GoesOn (g.L.Sink, g.L.Object, g.A.Access) (l.fn.link, l.fn.access, l.fn.connection) (l.link, l.access, l.connection) (Leads l.fn.connection.taken
+          (Served (Handles number was.core was.staged.entries.items was.staged.last) (ReadBy receiver (Spells Receiver) was.window was.fault))
           (Served (Handles number now.core now.staged.entries.items now.staged.last) (ReadBy receiver (Spells Receiver) now.window now.fault)));
       so_far : SoFar (Served (Handles number now.core now.staged.entries.items now.staged.last) (ReadBy receiver (Spells Receiver) now.window now.fault)) l.connection.taken 0;
-      same_number : l.connection.number ≡ number;
-      may : g.A.Access.may_take l.access number l.connection.taken;
       extent : now.window.at + length now.window.rest ≤ was.window.at + length was.window.rest;
-      writes : g.L.Sink.write_faults l.link ≡ g.L.Sink.write_faults l.fn.link;
-      same : g.L.Object.same l.fn.link l.link;
-      apart : g.L.Sink.write_apart l.fn.link l.link;
     }
 
 abbrev pub decreases-frames : goal.decreases-frames
