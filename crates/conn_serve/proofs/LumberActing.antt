@@ -66,23 +66,17 @@ halts_refused tell link access access' was now group group' handed seq fault tal
   at_move = subst IsAtMove (sym is) (fault_at_move fault);
 }
 
--- a take that was answered by no fault took the group
-pub took_ok : (ran : List Call → Type 0) (r : Result Receipt TakeFault) (group handed : List Entry) (was now : Connection) (May : Type 0) → handed ≡ group → ((e : TakeFault) → r ≡ Err e → ⊥) → ran (takes handed r ∷ []) → OnOk r (now ≡ record was { taken = was.taken + length handed }) → OnOk r May
-    → (receipt : Receipt) × ran (takes group (Ok receipt) ∷ []) × (now ≡ record was { taken = was.taken + length group }) × May
-took_ok ran (Ok receipt) group handed was now May is other made next may = (receipt, subst (λ (es : List Entry). ran (takes es (Ok receipt) ∷ [])) is made, subst (λ (es : List Entry). now ≡ record was { taken = was.taken + length es }) is next, may)
-took_ok ran (Err e) group handed was now May is other made next may = absurd (other e refl)
-
 -- A group was taken, and its acknowledgment was said, or a part of it.
-module _ {L A : Type 0} (tell : Telling L A) (link link' : L) (access access' : A) (was now : Connection) (group : List Entry) (receipt : Receipt) (made : tell.2.ran access (takes group (Ok receipt) ∷ []) access')
-    (next : now ≡ record was { taken = was.taken + length group }) (seq : ℕ) (small : seq < 2 ^ 32) (text : List ℕ) (spelled : text ≡ ack_text seq) (same : tell.1.same link link') (apart : tell.0.write_apart link link') where
+module _ {L A : Type 0} (tell : Telling L A) (link link' : L) (access access' : A) (was now : Connection) (group handed : List Entry) (are : handed ≡ group) (receipt : Receipt) (made : tell.2.ran access (takes handed (Ok receipt) ∷ []) access')
+    (next : now ≡ record was { taken = was.taken + length handed }) (seq : ℕ) (small : seq < 2 ^ 32) (text : List ℕ) (spelled : text ≡ ack_text seq) (same : tell.1.same link link') (apart : tell.0.write_apart link link') where
   went_said : (Failed : Type 0) (Is : List Call → List ℕ → Type 0) (part : List ℕ) → Appends (tell.0.taken link) (tell.0.taken link') part → CountsFaults Failed (tell.0.write_faults link) (tell.0.write_faults link') → Is (takes group (Ok receipt) ∷ []) part
       → Went tell (link, access, was) (link', access', now) Failed Is
   went_said Failed Is part wrote writes is = record {
     calls = takes group (Ok receipt) ∷ [];
     text = part;
-    made = made;
+    made = subst (λ (es : List Entry). tell.2.ran access (takes es (Ok receipt) ∷ []) access') are made;
     wrote = wrote;
-    counted = omega (arith, ap (λ (x : Connection). x.taken) next, length-append group []);
+    counted = omega (arith, ap (λ (x : Connection). x.taken) next, ap length are, length-append group []);
     is = is;
     number = ap (λ (x : Connection). x.number) next;
     writes = writes;
