@@ -1,7 +1,6 @@
 pub mod Acting
 pub mod Faults
 mod Leading
-mod Going
 mod Saying
 mod Fronts
 mod Handling

@@ -1,16 +1,13 @@
 -- What was done for a frame of Lumberjack.
-use Rattle.std.proofs.Common.{◌≡◌, inr, ℕ, ◌+◌, ◌^◌, ◌<◌, ◌≤◌, ◌∙◌, true, false, List, [], ◌∷◌, ◌++◌, length, take, refl, sym, ap, subst, arith, length-append}
-use Rattle.std.specs.Prelude.{Result, Ok, Err, OnOk, IfErr, IsErr}
-use Rattle.std.specs.Io.KnownBytes.{Appends}
+use Rattle.std.proofs.Common.{◌≡◌, inr, ℕ, ◌+◌, ◌≤◌, ◌∙◌, true, false, List, [], ◌∷◌, ◌++◌, Option, length, refl, sym, ap, subst, arith, length-append}
+use Rattle.std.specs.Prelude.{Result, Ok, Err, OnOk}
 use Rattle.std.specs.List.{All}
 use Rattle.std.proofs.lemmas.List.{append-nil}
 use Rattle.std.proofs.lemmas.List.Elements.{All-nil, All-cons}
 use Rattle.edge_io.proofs.Known.{appends_none}
 use Rattle.event_form.specs.declared.event.Entry.{Entry}
 use Rattle.event_form.specs.declared.talk.Talk.{Talk}
-use Rattle.event_form.specs.declared.talk.Talk.TheVariants.{WriteFault}
 use Rattle.lumber_frame.specs.declared.frame.LumberFrame.{LumberFrame}
-use Rattle.lumber_frame.specs.Spelling.{ack_text}
 use Rattle.lumber_session.specs.declared.act.LumberAct.{LumberAct}
 use Rattle.lumber_session.specs.declared.act.LumberAct.TheVariants.{Nothing, Stage, CommitFirst}
 use Rattle.lumber_session.specs.Acts.{Tells, commits}
@@ -21,17 +18,12 @@ use Rattle.spool_faults.specs.declared.fault.TakeFault.{TakeFault}
 use Rattle.spool_faults.specs.declared.fault.TakeFault.TheVariants.{TooLarge, Spent, Full, NotSpool, NoMemory, DiskFault}
 use Rattle.desk_access.specs.Batch.{AreNext}
 use Rattle.desk_access.specs.Call.{Call, takes, taken_of, TookSurely}
-use Rattle.desk_access.specs.Endings.{IsAtMove}
-use Rattle.conn_serve.specs.declared.connection.Connection.{Connection}
 use Rattle.conn_serve.specs.Groups.{IsFrameEntry}
-use Rattle.conn_serve.specs.Done.{Leads, SoFar}
-use Rattle.conn_serve.specs.Endings.{CountsFaults}
-use Rattle.conn_serve.specs.Went.{GoesOn, HaltsBy, Telling, Went}
+use Rattle.conn_serve.specs.Done.{Done, Leads, SoFar}
 use Rattle.conn_serve.specs.Relp.{talk_of}
 use Rattle.conn_serve.specs.Lumber.{lumberjack, StoresGroup, EndsAtGroup, entries_of}
 use Rattle.conn_serve.specs.Handled.{Handled}
 use Rattle.conn_serve.specs.LumberServing.{Handles, HaltsAtFrame, stages, last_behind}
-use Rattle.conn_serve.proofs.Faults.{counts_as, counts_none, fault_at_move, fault_is_whole}
 use Rattle.conn_serve.proofs.Batching.{next_conn, entries_count, entries_next, handles_few, handles_on, handled_batch, handles_batch, handles_stop, now_staged}
 
 -- after a group that was taken, the next one may be
@@ -47,59 +39,16 @@ group_refused group seq (NotSpool at) = (NotSpool at, refl, refl, refl)
 group_refused group seq NoMemory = (NoMemory, refl, refl, refl)
 group_refused group seq DiskFault = (DiskFault, refl, refl, refl)
 
--- so the connection halts, and nothing was written
-pub halts_refused : {L A : Type 0} (tell : Telling L A) (link : L) (access access' : A) (was now : Connection) (group group' : List Entry) → group' ≡ group → (seq : ℕ) (fault : TakeFault) (talk : Talk)
-    → tell.2.ran access (takes group' (Err fault) ∷ []) access' → now ≡ was → talk ≡ talk_of fault → tell.0.write_apart link link → HaltsBy tell (link, access, was) (link, access', now) (λ e late part. EndsAtGroup group seq late part e) talk
-halts_refused tell link access access' was now group group' handed seq fault talk made stays is apart = record {
-  went = record {
-    calls = takes group (Err fault) ∷ [];
-    text = [];
-    made = subst (λ (g : List Entry). tell.2.ran access (takes g (Err fault) ∷ []) access') handed made;
-    wrote = appends_none (tell.0.taken link);
-    counted = omega (arith, ap (λ (x : Connection). x.taken) stays);
-    is = subst (λ (t : Talk). EndsAtGroup group seq (takes group (Err fault) ∷ []) [] t) (sym is) (group_refused group seq fault);
-    number = ap (λ (x : Connection). x.number) stays;
-    writes = counts_none _ _ _ (λ e. fault_is_whole fault (sym is ∙ e)) refl;
-    same = tell.1.same_refl link;
-    apart = apart;
-  };
-  at_move = subst IsAtMove (sym is) (fault_at_move fault);
+pub done_refused : (ran : List Call → Type 0) (w : Option (List ℕ)) (n n' : ℕ) (group group' : List Entry) → group' ≡ group → (seq : ℕ) (fault : TakeFault) (talk : Talk) → ran (takes group' (Err fault) ∷ []) → n' ≡ n → talk ≡ talk_of fault
+    → Done ran w w n n' (λ late part. EndsAtGroup group seq late part talk)
+done_refused ran w n n' group group' handed seq fault talk made same is = record {
+  calls = takes group (Err fault) ∷ [];
+  text = [];
+  made = subst (λ (g : List Entry). ran (takes g (Err fault) ∷ [])) handed made;
+  wrote = appends_none w;
+  counted = omega (arith, same);
+  is = subst (λ (t : Talk). EndsAtGroup group seq (takes group (Err fault) ∷ []) [] t) (sym is) (group_refused group seq fault);
 }
-
--- A group was taken, and its acknowledgment was said, or a part of it.
-module _ {L A : Type 0} (tell : Telling L A) (link link' : L) (access access' : A) (was now : Connection) (group handed : List Entry) (are : handed ≡ group) (receipt : Receipt) (made : tell.2.ran access (takes handed (Ok receipt) ∷ []) access')
-    (next : now ≡ record was { taken = was.taken + length handed }) (seq : ℕ) (small : seq < 2 ^ 32) (text : List ℕ) (spelled : text ≡ ack_text seq) (same : tell.1.same link link') (apart : tell.0.write_apart link link') where
-  went_said : (Failed : Type 0) (Is : List Call → List ℕ → Type 0) (part : List ℕ) → Appends (tell.0.taken link) (tell.0.taken link') part → CountsFaults Failed (tell.0.write_faults link) (tell.0.write_faults link') → Is (takes group (Ok receipt) ∷ []) part
-      → Went tell (link, access, was) (link', access', now) Failed Is
-  went_said Failed Is part wrote writes is = record {
-    calls = takes group (Ok receipt) ∷ [];
-    text = part;
-    made = subst (λ (es : List Entry). tell.2.ran access (takes es (Ok receipt) ∷ []) access') are made;
-    wrote = wrote;
-    counted = omega (arith, ap (λ (x : Connection). x.taken) next, ap length are, length-append group []);
-    is = is;
-    number = ap (λ (x : Connection). x.number) next;
-    writes = writes;
-    same = same;
-    apart = apart;
-  }
-
-  pub goes_said : (r : Result (Unit {0}) Talk) → OnOk r (Appends (tell.0.taken link) (tell.0.taken link') text) → CountsFaults (IsErr r) (tell.0.write_faults link) (tell.0.write_faults link') → tell.2.may_take access' was.number now.taken
-      → OnOk r (GoesOn tell (link, access, was) (link', access', now) (StoresGroup group seq))
-  goes_said (Ok x) wrote writes may = record { went = went_said ⊥ (StoresGroup group seq) text wrote (counts_none _ _ _ (λ none. none) (writes.quiet (λ e. cc))) (receipt, refl, spelled, small); may = may }
-  goes_said (Err e) wrote writes may = tt
-
-  pub halts_said : (r : Result (Unit {0}) Talk) → IfErr r (λ talk. (talk ≡ WriteFault) × ((k : ℕ) × (k < length text) × Appends (tell.0.taken link) (tell.0.taken link') (take k text)))
-      → CountsFaults (IsErr r) (tell.0.write_faults link) (tell.0.write_faults link') → IfErr r (HaltsBy tell (link, access, was) (link', access', now) (λ e late part. EndsAtGroup group seq late part e))
-  halts_said (Ok x) part writes = tt
-  halts_said (Err e) part writes =
-      let k = part.1.0 in
-      let cut : EndsAtGroup group seq (takes group (Ok receipt) ∷ []) (take k text) WriteFault = (receipt, k, refl, subst (λ (t : List ℕ). k < length t) spelled part.1.1, ap (take k) spelled, small) in
-      record {
-        went = went_said (e ≡ WriteFault) (λ late said. EndsAtGroup group seq late said e) (take k text) part.1.2 (counts_as _ _ _ _ (λ is. refl) (λ is. part.0) writes)
-            (subst (λ (t : Talk). EndsAtGroup group seq (takes group (Ok receipt) ∷ []) (take k text) t) (sym part.0) cut);
-        at_move = subst IsAtMove (sym part.0) tt;
-      }
 
 stages_few : (act : LumberAct) → length (stages act) ≤ 1
 stages_few Nothing = omega arith

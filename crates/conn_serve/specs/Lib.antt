@@ -4,7 +4,6 @@ pub mod Runs
 pub mod Lumber
 pub mod Handled
 pub mod Done
-pub mod Went
 pub mod Endings
 pub mod RelpServing
 pub mod LumberServing

@@ -13,8 +13,7 @@ ghost use Rattle.conn_serve.specs.Handled.{Handled};
 ghost use Rattle.conn_serve.specs.Says.{MaySay};
 ghost use Rattle.conn_serve.specs.Lumber.{lumberjack, StoresGroup, EndsAtGroup, entries_of};
 ghost use Rattle.conn_serve.specs.Groups.{IsFrameEntry};
-ghost use Rattle.conn_serve.specs.Done.{Leads, SoFar};
-ghost use Rattle.conn_serve.specs.Went.{GoesOn, HaltsBy};
+ghost use Rattle.conn_serve.specs.Done.{GoesOn, HaltsBy, Leads, SoFar};
 ghost use Rattle.conn_serve.specs.LumberServing.{Handles, HaltsAtFrame, stages, last_behind};
 
 use crate::connection::{Connection, take_group};

@@ -2,7 +2,7 @@ use Rattle.std.proofs.Common.{◌∙◌, inl, refl, sym, arith, subst}
 use Rattle.lumber_frame.specs.Lent.{frame_lent}
 use Rattle.lumber_session.specs.Lent.{act_lent}
 use Rattle.conn_serve.proofs.Acting.{err_then}
-use Rattle.conn_serve.proofs.Going.{goes_as, halts_as, went_none}
+use Rattle.conn_serve.proofs.Leading.{goes_as, halts_as, went_none}
 use Rattle.conn_serve.proofs.LumberActing.{batch_due, staged_few, staged_next, frame_on, frame_batch, frame_halt, batch_then}
 use Rattle.conn_serve.proofs.Faults.{err_of, memory_is_whole}
 use Rattle.desk_access.specs.Endings.{IsAtMove}

@@ -5,7 +5,7 @@ use Rattle.lumber_frame.specs.Window.{Gives}
 use Rattle.stream_grammar.specs.Reading.{Window}
 use Rattle.lumber_frame.specs.declared.fault.LumberFault.{LumberFault}
 use Rattle.conn_serve.proofs.Faults.{err_of}
-use Rattle.conn_serve.proofs.Going.{goes_as, halts_as, went_none}
+use Rattle.conn_serve.proofs.Leading.{goes_as, halts_as, went_none}
 use Rattle.conn_serve.proofs.LumberSessions.{due_carried, fewer, served_frame, served_halt, served_still}
 use Rattle.conn_serve.proofs.lumberjack.session.serve_next.Goals as goal
 

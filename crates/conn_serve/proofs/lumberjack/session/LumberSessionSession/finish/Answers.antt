@@ -1,10 +1,9 @@
 use Rattle.std.proofs.Common.{rules, arith}
 use Rattle.conn_serve.proofs.Acting.{done_nothing, ok_then, err_then, none_by}
-use Rattle.conn_serve.proofs.Going.{keeps, went_done}
+use Rattle.conn_serve.proofs.Leading.{done_map, keeps}
 use Rattle.desk_access.specs.Carried.{Carried}
 use Rattle.conn_serve.specs.Lumber.{lumberjack}
 use Rattle.conn_serve.proofs.Saying.{has_carried}
-use Rattle.conn_serve.proofs.Leading.{done_map}
 use Rattle.conn_serve.proofs.Batching.{handles_few, handles_next}
 use Rattle.conn_serve.proofs.LumberSessions.{so_far_few, finished_none, finished_batch, finished_halt}
 use Rattle.conn_serve.proofs.lumberjack.session.LumberSessionSession.finish.Goals as goal
@@ -28,13 +27,13 @@ commit-requires-clause-early g c =
 pub returns-clause-goes : goal.returns-clause-goes
 returns-clause-goes g c =
     let now = c.args.self.now in
-    ok_then c.commit.result _ _ c.commit.ensures.goes (λ h. done_map _ _ _ _ _ _ _ (went_done _ _ _ _ _ h.went) (λ calls text stores left fed called said counted k.
+    ok_then c.commit.result _ _ c.commit.ensures.goes (λ h. done_map _ _ _ _ _ _ _ h.went.done (λ calls text stores left fed called said counted k.
     finished_batch c.args.connection.now.number now.core now.staged.entries.items now.staged.last left c.args.over fed called said k calls text (search rules) stores))
 
 pub returns-clause-halts : goal.returns-clause-halts
 returns-clause-halts g c =
     let now = c.args.self.now in
-    err_then c.commit.result _ _ c.commit.ensures.halts (λ talk h. done_map _ _ _ _ _ _ _ (went_done _ _ _ _ _ h.went) (λ late part ends left fed called said counted k.
+    err_then c.commit.result _ _ c.commit.ensures.halts (λ talk h. done_map _ _ _ _ _ _ _ h.went.done (λ late part ends left fed called said counted k.
     finished_halt c.args.connection.now.number now.core now.staged.entries.items now.staged.last left c.args.over fed called said k late part talk h.at_move (search rules) ends))
 
 pub commit-requires-clause-says : goal.commit-requires-clause-says

@@ -13,8 +13,7 @@ use Rattle.conn_serve.proofs.Saying.{says_then}
 use Rattle.conn_serve.specs.Handled.{Served, ReadBy}
 use Rattle.conn_serve.specs.LumberServing.{Handles}
 use Rattle.conn_serve.proofs.Faults.{counts_err, counts_fine, err_of}
-use Rattle.conn_serve.proofs.Going.{goes_as, goes_then, halts_as, halts_then, went_done, went_none}
-use Rattle.conn_serve.proofs.Leading.{leads_start, so_far_then}
+use Rattle.conn_serve.proofs.Leading.{goes_as, goes_then, halts_as, halts_then, leads_start, so_far_then, went_none}
 use Rattle.conn_serve.proofs.LumberSessions.{so_far_few, so_far_handles, served_by, halted_by}
 use Rattle.conn_serve.proofs.lumberjack.session.LumberSessionSession.serve.Goals as goal
 
@@ -49,7 +48,7 @@ serve_next-requires-clause-says g c =
     let now = l.self in
     let number = c.args.connection.now.number in
     let says = says_then g.A.Access.ran c.args.access.now l.access g.met.A.Access.ran_more _ _ _ _ (g.met.L.Sink.permits_last _ _ went.apart) (CouldEnd (Carried (lumberjack number))) _ _ _
-    (Served (Handles number now.core now.staged.entries.items now.staged.last) (ReadBy receiver (Spells Receiver) now.window now.fault)) (went_done _ _ _ _ _ went) c.requires.says in
+    (Served (Handles number now.core now.staged.entries.items now.staged.last) (ReadBy receiver (Spells Receiver) now.window now.fault)) went.done c.requires.says in
     λ at calls text made goes. says at calls text made (subst (λ (k : ℕ). Leads l.connection.taken (Served (Handles k now.core now.staged.entries.items now.staged.last) (ReadBy receiver (Spells Receiver) now.window now.fault))
     (CouldEnd (Carried (lumberjack k))) calls text) went.number (goes now.fault))
 
@@ -66,7 +65,7 @@ frames-preserved g c =
     record {
       goes = goes_then _ _ _ _ _ _ (Served (Handles number now.core now.staged.entries.items now.staged.last) (ReadBy receiver (Spells Receiver) now.window was.fault)) inv.goes next
           (λ xs ys p q. g.met.A.Access.ran_more _ _ _ xs ys p q) (λ p q. g.met.L.Sink.apart_trans _ _ _ p q);
-      so_far = so_far_then _ _ _ _ _ _ _ _ inv.so_far (went_done _ _ _ _ _ next.went);
+      so_far = so_far_then _ _ _ _ _ _ _ _ inv.so_far next.went.done;
       extent = omega (arith, inv.extent, call.extent);
     }
 
@@ -83,7 +82,7 @@ returns g c =
     let all = goes_then _ _ _ _ _ _ (Served (Handles number now.core now.staged.entries.items now.staged.last) (ReadBy receiver (Spells Receiver) now.window was.fault)) inv.goes next
         (λ xs ys p q. g.met.A.Access.ran_more _ _ _ xs ys p q) (λ p q. g.met.L.Sink.apart_trans _ _ _ p q) in
     record {
-      goes = went_done _ _ _ _ _ all.went;
+      goes = all.went.done;
       halts = tt;
       only = tt;
       idle = call.idle c.if-branch.false;
@@ -111,7 +110,7 @@ returns-in_err-serve_next g c =
     rw (err_of c.from_residual.result talk c.from_residual.ensures.1)
     (record {
       goes = tt;
-      halts = went_done _ _ _ _ _ all.went;
+      halts = all.went.done;
       only = all.at_move;
       idle = tt;
       extent = tt;

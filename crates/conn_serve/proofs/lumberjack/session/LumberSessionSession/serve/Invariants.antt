@@ -2,8 +2,7 @@ use Rattle.std.proofs.Common.{◌+◌, ◌≤◌, length}
 use Rattle.lumber_frame.specs.declared.side.Side.TheVariants.{Receiver}
 use Rattle.lumber_frame.specs.Reading.{receiver}
 use Rattle.lumber_frame.specs.Spelling.{Spells}
-use Rattle.conn_serve.specs.Done.{Leads, SoFar}
-use Rattle.conn_serve.specs.Went.{GoesOn}
+use Rattle.conn_serve.specs.Done.{GoesOn, Leads, SoFar}
 use Rattle.conn_serve.specs.Handled.{Served, ReadBy}
 use Rattle.conn_serve.specs.LumberServing.{Handles}
 use Rattle.conn_serve.proofs.lumberjack.session.LumberSessionSession.serve.Given as goal
