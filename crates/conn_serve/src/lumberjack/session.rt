@@ -61,11 +61,13 @@ fn serve_next<L: Link, A: Access>(
         (ReadBy receiver (Spells Receiver) window.old fault))
         (CouldEnd (Carried (lumberjack connection.old.number))) calls text) }
 
-    ensures goes { (fault : Option TheFault) → OnOk result (GoesOn (L.Sink.own, L.Object, A.Access) (link.old, access.old, connection.old) (link.new, access.new, connection.new)
-        (Leads connection.old.taken (Served (Handles connection.old.number core.old staged.old.entries.items staged.old.last) (ReadBy receiver (Spells Receiver) window.old fault))
+    ensures goes { (fault : Option TheFault) → OnOk result (GoesOn (L.Sink.own, L.Object, A.Access)
+        (link.old, access.old, connection.old) (link.new, access.new, connection.new) (Leads connection.old.taken
+        (Served (Handles connection.old.number core.old staged.old.entries.items staged.old.last) (ReadBy receiver (Spells Receiver) window.old fault))
         (Served (Handles connection.old.number core.new staged.new.entries.items staged.new.last) (ReadBy receiver (Spells Receiver) window.new fault)))) }
-    ensures halts { (fault : Option TheFault) → IfErr result (HaltsBy (L.Sink.own, L.Object, A.Access) (link.old, access.old, connection.old) (link.new, access.new, connection.new)
-        (λ talk. Leads connection.old.taken (Served (Handles connection.old.number core.old staged.old.entries.items staged.old.last) (ReadBy receiver (Spells Receiver) window.old fault))
+    ensures halts { (fault : Option TheFault) → IfErr result (HaltsBy (L.Sink.own, L.Object, A.Access)
+        (link.old, access.old, connection.old) (link.new, access.new, connection.new) (λ talk. Leads connection.old.taken
+        (Served (Handles connection.old.number core.old staged.old.entries.items staged.old.last) (ReadBy receiver (Spells Receiver) window.old fault))
         (Anyway (Carried (lumberjack connection.old.number)) talk))) }
     ensures idle { IfOk result (λ served. served ≡ false → IsIdle ROOM window.new) }
     ensures fewer { IfOk result (λ served. served ≡ true → length window.new.whole < length window.old.whole) }

@@ -61,7 +61,7 @@ frames-preserved g c =
     let number = c.args.connection.now.number in
     let now = c.serve_next.new in
     let next = goes_as _ _ _ _ _ (call.goes was.fault) (λ (calls : List Call) (text : List ℕ). served_by l.connection.taken l.connection.number number inv.goes.went.number was.window was.core was.staged.entries.items
-        was.staged.last was.fault calls text now.window now.core now.staged.entries.items now.staged.last) in
+    was.staged.last was.fault calls text now.window now.core now.staged.entries.items now.staged.last) in
     record {
       goes = goes_then _ _ _ _ _ _ (Served (Handles number now.core now.staged.entries.items now.staged.last) (ReadBy receiver (Spells Receiver) now.window was.fault)) inv.goes next
           (λ xs ys p q. g.met.A.Access.ran_more _ _ _ xs ys p q) (λ p q. g.met.L.Sink.apart_trans _ _ _ p q);
@@ -78,9 +78,9 @@ returns g c =
     let number = c.args.connection.now.number in
     let now = c.serve_next.new in
     let next = goes_as _ _ _ _ _ (call.goes was.fault) (λ (calls : List Call) (text : List ℕ). served_by l.connection.taken l.connection.number number inv.goes.went.number was.window was.core was.staged.entries.items
-        was.staged.last was.fault calls text now.window now.core now.staged.entries.items now.staged.last) in
+    was.staged.last was.fault calls text now.window now.core now.staged.entries.items now.staged.last) in
     let all = goes_then _ _ _ _ _ _ (Served (Handles number now.core now.staged.entries.items now.staged.last) (ReadBy receiver (Spells Receiver) now.window was.fault)) inv.goes next
-        (λ xs ys p q. g.met.A.Access.ran_more _ _ _ xs ys p q) (λ p q. g.met.L.Sink.apart_trans _ _ _ p q) in
+    (λ xs ys p q. g.met.A.Access.ran_more _ _ _ xs ys p q) (λ p q. g.met.L.Sink.apart_trans _ _ _ p q) in
     record {
       goes = all.went.done;
       halts = tt;
@@ -104,8 +104,8 @@ returns-in_err-serve_next g c =
     let number = c.args.connection.now.number in
     let talk = c.in_err-serve_next.field-0.0 in
     let next = halts_as _ _ _ _ (λ (e : Talk). Leads l.connection.taken (Served (Handles number was.core was.staged.entries.items was.staged.last) (ReadBy receiver (Spells Receiver) was.window was.fault))
-        (Anyway (Carried (lumberjack number)) e)) talk (call.halts was.fault)
-        (λ (at : IsAtMove talk) (calls : List Call) (text : List ℕ). halted_by l.connection.taken l.connection.number number inv.goes.went.number was.window was.core was.staged.entries.items was.staged.last was.fault calls text talk) in
+    (Anyway (Carried (lumberjack number)) e)) talk (call.halts was.fault)
+    (λ (at : IsAtMove talk) (calls : List Call) (text : List ℕ). halted_by l.connection.taken l.connection.number number inv.goes.went.number was.window was.core was.staged.entries.items was.staged.last was.fault calls text talk) in
     let all = halts_then _ _ _ _ _ _ (Anyway (Carried (lumberjack number))) talk inv.goes next (λ xs ys p q. g.met.A.Access.ran_more _ _ _ xs ys p q) (λ p q. g.met.L.Sink.apart_trans _ _ _ p q) in
     rw (err_of c.from_residual.result talk c.from_residual.ensures.1)
     (record {
