@@ -1,4 +1,4 @@
-use Rattle.std.proofs.Common.{◌≡◌, length, ap, arith}
+use Rattle.std.proofs.Common.{◌≡◌, length, ap, refl, arith}
 use Rattle.std.proofs.lemmas.List.{length-map}
 use Rattle.desk_access.proofs.Dividing.{callers_few}
 use Rattle.serve_workers.proofs.Placing.{told_alike}
@@ -24,3 +24,27 @@ returns-clause-doors g c = told_alike (λ w. w.door) (λ p. p.door) g.P.Door.tol
 
 pub room_for-requires : goal.room_for-requires
 room_for-requires g c = omega (arith, c.requires.many.1, c.args.posts.ok.0, callers_few g.S.Seat.of_run.division)
+
+pub placed-workers-requires-clause-room : goal.placed-workers-requires-clause-room
+placed-workers-requires-clause-room g c = let room = c.in-Ok.ensures.workers in (room.0, room.1, omega (arith, room.2, c.len.ensures))
+
+pub placed-workers-requires-clause-many : goal.placed-workers-requires-clause-many
+placed-workers-requires-clause-many g c = c.requires.many
+
+pub placed-workers-requires-clause-new : goal.placed-workers-requires-clause-new
+placed-workers-requires-clause-new g c = c.requires.new
+
+pub placed-workers-requires-clause-says : goal.placed-workers-requires-clause-says
+placed-workers-requires-clause-says g c = c.requires.says
+
+pub returns-clause-rules : goal.returns-clause-rules
+returns-clause-rules g c = c.placed-workers.ensures.rules
+
+pub returns-clause-passes : goal.returns-clause-passes
+returns-clause-passes g c = c.placed-workers.ensures.passes
+
+pub returns-clause-err : goal.returns-clause-err
+returns-clause-err g c = tt
+
+pub returns-in_default : goal.returns-in_default
+returns-in_default g c = record { rules = tt; doors = tt; passes = tt; err = (refl, refl) }

@@ -106,3 +106,29 @@ pub returns-in-Ok-clause-stays : goal.returns-in-Ok-clause-stays
 returns-in-Ok-clause-stays g c =
     let stays = subst (λ o. StaysPermitted (Ok o) (g.P.Door.permits c.args.door.now) (g.P.Door.permits c.accept.new.self)) c.in-Ok-Some.field-0-is c.in-Ok-Some.ensures.stays in
     λ k read text may. c.in-Ok.ensures.stays k read text (stays k read text may)
+
+pub attend-attended-requires-clause-may : goal.attend-attended-requires-clause-may
+attend-attended-requires-clause-may g c = c.requires.may
+
+-- each clause speaks of one of the two ends alone
+
+pub returns-in-Ok-clause-stops : goal.returns-in-Ok-clause-stops
+returns-in-Ok-clause-stops g c = tt
+
+pub returns-in-Ok-None-clause-serves : goal.returns-in-Ok-None-clause-serves
+returns-in-Ok-None-clause-serves g c = tt
+
+pub returns-in-Ok-None-clause-stays : goal.returns-in-Ok-None-clause-stays
+returns-in-Ok-None-clause-stays g c = tt
+
+pub returns-in-Err-clause-serves : goal.returns-in-Err-clause-serves
+returns-in-Err-clause-serves g c = tt
+
+pub returns-in-Err-clause-stays : goal.returns-in-Err-clause-stays
+returns-in-Err-clause-stays g c = tt
+
+pub returns-in-Err-give_back-clause-serves : goal.returns-in-Err-give_back-clause-serves
+returns-in-Err-give_back-clause-serves g c = tt
+
+pub returns-in-Err-give_back-clause-stays : goal.returns-in-Err-give_back-clause-stays
+returns-in-Err-give_back-clause-stays g c = tt
