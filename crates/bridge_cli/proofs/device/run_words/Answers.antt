@@ -126,3 +126,77 @@ returns-in-Err-clause-done g c = λ how wants. inl (inr refl, (refl, refl, refl)
 
 pub returns-in-Err-clause-moved : goal.returns-in-Err-clause-moved
 returns-in-Err-clause-moved g c = λ some. inl (inr refl, refl)
+
+-- the calls are allowed what the words are
+
+pub run_made-requires-clause-need : goal.run_made-requires-clause-need
+run_made-requires-clause-need g c κs within = c.in-Ok-Make.ensures
+
+pub run_made-requires-clause-dials : goal.run_made-requires-clause-dials
+run_made-requires-clause-dials g c κs within = c.requires.dials
+
+pub run_made-requires-clause-replays : goal.run_made-requires-clause-replays
+run_made-requires-clause-replays g c κs within = c.requires.replays
+
+pub run_made-requires-clause-releases : goal.run_made-requires-clause-releases
+run_made-requires-clause-releases g c κs within = c.requires.releases
+
+pub run_made-requires-clause-tears : goal.run_made-requires-clause-tears
+run_made-requires-clause-tears g c κs within = c.requires.tears
+
+pub run_made-requires-clause-prints : goal.run_made-requires-clause-prints
+run_made-requires-clause-prints g c κs within = c.requires.prints
+
+pub run_existing-requires-clause-need : goal.run_existing-requires-clause-need
+run_existing-requires-clause-need g c κs within = c.in-Ok-Existing.ensures
+
+pub run_existing-requires-clause-answers : goal.run_existing-requires-clause-answers
+run_existing-requires-clause-answers g c κs within = c.requires.answers
+
+pub run_existing-requires-clause-binds : goal.run_existing-requires-clause-binds
+run_existing-requires-clause-binds g c κs within = c.requires.binds
+
+pub run_existing-requires-clause-tells : goal.run_existing-requires-clause-tells
+run_existing-requires-clause-tells g c κs within = c.requires.tells
+
+pub run_existing-requires-clause-reports : goal.run_existing-requires-clause-reports
+run_existing-requires-clause-reports g c κs within = c.requires.reports
+
+pub run_existing-requires-clause-dials : goal.run_existing-requires-clause-dials
+run_existing-requires-clause-dials g c κs within = c.requires.dials
+
+pub run_existing-requires-clause-replays : goal.run_existing-requires-clause-replays
+run_existing-requires-clause-replays g c κs within = c.requires.replays
+
+pub run_existing-requires-clause-releases : goal.run_existing-requires-clause-releases
+run_existing-requires-clause-releases g c κs within = c.requires.releases
+
+pub run_existing-requires-clause-tears : goal.run_existing-requires-clause-tears
+run_existing-requires-clause-tears g c κs within = c.requires.tears
+
+pub run_existing-requires-clause-prints : goal.run_existing-requires-clause-prints
+run_existing-requires-clause-prints g c κs within = c.requires.prints
+
+pub run_bare-requires-clause-dials : goal.run_bare-requires-clause-dials
+run_bare-requires-clause-dials g c = c.requires.dials
+
+pub run_bare-requires-in-Ok-Nothing-clause-dials : goal.run_bare-requires-in-Ok-Nothing-clause-dials
+run_bare-requires-in-Ok-Nothing-clause-dials g c = c.requires.dials
+
+pub run_bare-requires-clause-prints : goal.run_bare-requires-clause-prints
+run_bare-requires-clause-prints g c = c.requires.prints
+
+pub run_bare-requires-in-Ok-Nothing-clause-prints : goal.run_bare-requires-in-Ok-Nothing-clause-prints
+run_bare-requires-in-Ok-Nothing-clause-prints g c = c.requires.prints
+
+pub run_move-requires-clause-moves : goal.run_move-requires-clause-moves
+run_move-requires-clause-moves g c κs within = pair_moves _ _ _ (rw c.in-Ok-Pair.field-0-is at c.in-Ok-Pair.ensures)
+
+pub run_move-requires-clause-earned : goal.run_move-requires-clause-earned
+run_move-requires-clause-earned g c κs within = c.requires.moves
+
+pub run_move-requires-clause-tears : goal.run_move-requires-clause-tears
+run_move-requires-clause-tears g c κs within = c.requires.keeps
+
+pub returns-in-Ok-Pair-clause-writes : goal.returns-in-Ok-Pair-clause-writes
+returns-in-Ok-Pair-clause-writes g c = inl c.run_move.ensures.writes

@@ -45,3 +45,36 @@ returns-clause-ran g c =
       worked = subst (λ (r : Roster). HaveWorked g.S.Seat.start g.S.Seat.of_run c.args.talks r (returned_as (map g.P.Door.told crew.doors.items) (map know crew.passes.items) crew.reports.items)) (λ i. roster_as (hired.rules i) (hired.doors i) (hired.passes i)) ran.worked;
       forwarded = ran.forwarded;
     }
+
+pub hire-requires-clause-many : goal.hire-requires-clause-many
+hire-requires-clause-many g c = (c.requires.many.0, c.requires.many.1)
+
+pub hire-requires-clause-says : goal.hire-requires-clause-says
+hire-requires-clause-says g c = c.requires.says
+
+pub run_seated-ran-requires-clause-talks : goal.run_seated-ran-requires-clause-talks
+run_seated-ran-requires-clause-talks g c κs within = c.requires.talks
+
+pub run_seated-ran-requires-clause-polls : goal.run_seated-ran-requires-clause-polls
+run_seated-ran-requires-clause-polls g c κs within = c.requires.polls
+
+pub run_seated-ran-requires-clause-named : goal.run_seated-ran-requires-clause-named
+run_seated-ran-requires-clause-named g c κs within = c.requires.named
+
+pub run_seated-ran-requires-clause-earned : goal.run_seated-ran-requires-clause-earned
+run_seated-ran-requires-clause-earned g c κs within = c.requires.earned
+
+pub run_seated-ran-requires-clause-reports : goal.run_seated-ran-requires-clause-reports
+run_seated-ran-requires-clause-reports g c κs within = c.requires.reports
+
+pub run_seated-ran-requires-clause-other : goal.run_seated-ran-requires-clause-other
+run_seated-ran-requires-clause-other g c κs within = c.requires.other
+
+pub returns-in-Err-clause-many : goal.returns-in-Err-clause-many
+returns-in-Err-clause-many g c = tt
+
+pub returns-in-Err-clause-ran : goal.returns-in-Err-clause-ran
+returns-in-Err-clause-ran g c = tt
+
+pub returns-clause-err : goal.returns-clause-err
+returns-clause-err g c = tt

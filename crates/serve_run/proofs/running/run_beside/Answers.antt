@@ -1,4 +1,4 @@
-use Rattle.std.proofs.Common.{List, map, subst, sym, ap, arith, refl}
+use Rattle.std.proofs.Common.{List, map, subst, sym, ap, ◌∙◌, arith, refl}
 use Rattle.desk_seats.specs.Passes.{Known}
 use Rattle.serve_workers.specs.Crews.{HaveWorked, returned_as}
 use Rattle.serve_forwarder.specs.Looks.{IsLook, forwarder_at}
@@ -39,3 +39,45 @@ returns-clause-forwarded g c =
         last_is = last.5;
       },
     )
+
+pub work_and_forward-seat-requires-clause-new : goal.work_and_forward-seat-requires-clause-new
+work_and_forward-seat-requires-clause-new g c κs within = c.requires.new
+
+pub work_and_forward-seat-requires-clause-talks : goal.work_and_forward-seat-requires-clause-talks
+work_and_forward-seat-requires-clause-talks g c κs within = c.requires.talks
+
+pub work_and_forward-seat-requires-clause-confirms : goal.work_and_forward-seat-requires-clause-confirms
+work_and_forward-seat-requires-clause-confirms g c κs within = c.requires.confirms
+
+pub work_and_forward-seat-requires-clause-polls : goal.work_and_forward-seat-requires-clause-polls
+work_and_forward-seat-requires-clause-polls g c κs within = c.requires.polls
+
+pub work_and_forward-seat-requires-clause-named : goal.work_and_forward-seat-requires-clause-named
+work_and_forward-seat-requires-clause-named g c κs within = c.requires.named
+
+pub work_and_forward-seat-requires-clause-earned : goal.work_and_forward-seat-requires-clause-earned
+work_and_forward-seat-requires-clause-earned g c κs within = c.requires.earned
+
+pub work_and_forward-seat-requires-clause-reports : goal.work_and_forward-seat-requires-clause-reports
+work_and_forward-seat-requires-clause-reports g c κs within = c.requires.reports
+
+pub work_and_forward-seat-requires-clause-other : goal.work_and_forward-seat-requires-clause-other
+work_and_forward-seat-requires-clause-other g c κs within = c.requires.other
+
+pub look_again-last-requires-clause-polls : goal.look_again-last-requires-clause-polls
+look_again-last-requires-clause-polls g c = c.requires.polls
+
+pub look_again-last-requires-clause-named : goal.look_again-last-requires-clause-named
+look_again-last-requires-clause-named g c = c.requires.named
+
+pub look_again-last-requires-clause-earned : goal.look_again-last-requires-clause-earned
+look_again-last-requires-clause-earned g c = c.requires.earned
+
+pub look_again-last-requires-clause-reports : goal.look_again-last-requires-clause-reports
+look_again-last-requires-clause-reports g c = c.requires.reports
+
+pub returns-clause-many : goal.returns-clause-many
+returns-clause-many g c = let many = c.work_and_forward-seat.ensures.many in (many.0, c.look_again-last.ensures.same.1 ∙ many.1, many.2)
+
+pub returns-clause-room : goal.returns-clause-room
+returns-clause-room g c = let same = c.look_again-last.ensures.same in omega (arith, same.1, same.2, c.work_and_forward-seat.ensures.room)
